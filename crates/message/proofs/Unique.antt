@@ -1,0 +1,66 @@
+-- Document 01, "What has to be promised": for each input a contract leaves one possible result and one possible content of everything lent.
+use mathlib.Core.Path.{_≡_, sym, _∙_}
+use contract.Lifetimes
+use borrow.Fn.World
+use borrow.Fn.Kinds as Kinds'
+use denote.Triple.Clauses
+use denote.Ref.{now}
+use Rattle.slots.proofs.Unique.{One}
+use Rattle.message.proofs.reading.read.Reads as read
+use Rattle.message.proofs.element.Element.at.Reads as at
+use Rattle.message.proofs.fields.Backoff.bad.Reads as bad
+use Rattle.message.proofs.fields.Fields.bad_backoffs.Reads as bad-backoffs
+use Rattle.message.proofs.rules.within.Reads as within
+use Rattle.message.proofs.rules.granting.Reads as granting
+use Rattle.message.proofs.rules.sid_allowed.Reads as sid-allowed
+use Rattle.message.proofs.grants.grant.Reads as grant
+use Rattle.message.proofs.after.after_null as after-null'
+use Rattle.message.proofs.after.after_null.Reads as after-null
+use Rattle.message.proofs.after.after_null.Kinds as after-null-kinds
+use Rattle.message.proofs.reading.Reading.after_null as part'
+use Rattle.message.proofs.reading.Reading.after_null.Reads as part
+use Rattle.message.proofs.reading.Reading.after_null.Kinds as part-kinds
+use Rattle.message.proofs.writing.lay_out as lay-out'
+use Rattle.message.proofs.writing.lay_out.Reads as lay-out
+use Rattle.message.proofs.writing.lay_out.Kinds as lay-out-kinds
+use Rattle.message.proofs.writing.write as write'
+use Rattle.message.proofs.writing.write.Reads as write
+use Rattle.message.proofs.writing.write.Kinds as write-kinds
+
+pub read-unique : One read.Post
+read-unique κs a r r' s s' p q = p ∙ sym q
+
+pub at-unique : One at.Post
+at-unique κs a r r' s s' p q = p ∙ sym q
+
+pub bad-unique : One bad.Post
+bad-unique κs a r r' s s' p q = p ∙ sym q
+
+pub bad-backoffs-unique : One bad-backoffs.Post
+bad-backoffs-unique κs a r r' s s' p q = p ∙ sym q
+
+pub within-unique : One within.Post
+within-unique κs a r r' s s' p q = p ∙ sym q
+
+pub granting-unique : One granting.Post
+granting-unique κs a r r' s s' p q = p ∙ sym q
+
+pub sid-allowed-unique : One sid-allowed.Post
+sid-allowed-unique κs a r r' s s' p q = p ∙ sym q
+
+pub grant-unique : One grant.Post
+grant-unique κs a r r' s s' p q = p ∙ sym q
+
+-- a part of the caller's bytes: its content is one
+pub after-null-unique : (κs : Lifetimes.Lfts 1) (a : World.ArgsD after-null'.signature κs) (r r' : World.ResD after-null'.signature κs) (s s' : Clauses.AtExit (Kinds'.endedOf 1 after-null-kinds.ps after-null-kinds.r) κs) → after-null.Post κs a r s → after-null.Post κs a r' s' → now r ≡ now r'
+after-null-unique κs a r r' s s' p q = p ∙ sym q
+
+pub part-unique : (κs : Lifetimes.Lfts 1) (a : World.ArgsD part'.signature κs) (r r' : World.ResD part'.signature κs) (s s' : Clauses.AtExit (Kinds'.endedOf 1 part-kinds.ps part-kinds.r) κs) → part.Post κs a r s → part.Post κs a r' s' → now r ≡ now r'
+part-unique κs a r r' s s' p q = p ∙ sym q
+
+-- lent bytes: what they hold at exit is one
+pub lay-out-unique : (κs : Lifetimes.Lfts 4) (a : World.ArgsD lay-out'.signature κs) (r r' : World.ResD lay-out'.signature κs) (s s' : Clauses.AtExit (Kinds'.endedOf 4 lay-out-kinds.ps lay-out-kinds.r) κs) → lay-out.Post κs a r s → lay-out.Post κs a r' s' → now (s .1 .1 .1 .1 .0) ≡ now (s' .1 .1 .1 .1 .0)
+lay-out-unique κs a r r' s s' p q = p ∙ sym q
+
+pub write-unique : (κs : Lifetimes.Lfts 4) (a : World.ArgsD write'.signature κs) (r r' : World.ResD write'.signature κs) (s s' : Clauses.AtExit (Kinds'.endedOf 4 write-kinds.ps write-kinds.r) κs) → write.Post κs a r s → write.Post κs a r' s' → (r ≡ r') × (now (s .1 .1 .1 .1 .0) ≡ now (s' .1 .1 .1 .1 .0))
+write-unique κs a r r' s s' p q = (p .0 ∙ sym (q .0), p .1 ∙ sym (q .1))

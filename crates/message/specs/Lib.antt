@@ -1,0 +1,11 @@
+pub mod Refusals
+pub mod Sids
+pub mod Element
+pub mod Fields
+pub mod Rules
+pub mod Lists
+pub mod Map
+pub mod Reading
+pub mod After
+pub mod Grants
+pub mod Writing

@@ -1,0 +1,71 @@
+// An information element: SID 14 bits, use (IUC) 4 bits, offset 14 bits.
+ghost use mathlib.Core.Path.{_≡_};
+ghost use Prim.Native.Nat.{_+_, _*_, _≤_, _<_};
+ghost use lib.ListN.{length};
+ghost use Rattle.message.specs.Element.{wordAt, elementOf, elementIn, elementAt};
+
+pub struct Element {
+    pub sid: u32,
+    pub iuc: u32,
+    pub offset: u32,
+}
+
+impl Element {
+    pub const MOST: usize = 240;
+
+    pub const LONGEST_MAP: u32 = 4096;
+
+    pub const LONGEST_GRANT: u64 = 255;
+
+    // The i-th element of a message; all zero where the bytes end before it does.
+    pub fn at(bytes: &[u8], i: usize) -> Element
+        ensures { λ r. ⌜ r ≡ elementAt (now (bytes .entry)) i ⌝ }
+    {
+        if bytes.len() < 20 {
+            return Element::ZERO;
+        }
+        if (bytes.len() - 20) / 4 < i {
+            return Element::ZERO;
+        }
+        element_in(bytes, i)
+    }
+
+    const ZERO: Element = Element {
+        sid: 0,
+        iuc: 0,
+        offset: 0,
+    };
+}
+
+// The i-th element, which is there.
+pub(crate) fn element_in(bytes: &[u8], i: usize) -> Element
+    requires { ⌜ 20 + 4 * i ≤ length (now bytes) ⌝ }
+    ensures { λ r. ⌜ r ≡ elementIn (now (bytes .entry)) i ⌝ }
+{
+    element_of(word_at(bytes, 16 + 4 * i))
+}
+
+fn element_of(word: u32) -> Element
+    ensures { λ r. ⌜ r ≡ elementOf word ⌝ }
+{
+    Element {
+        sid: word / 262144,
+        iuc: word / 16384 % 16,
+        offset: word % 16384,
+    }
+}
+
+// Four bytes, most significant first.
+pub(crate) fn word_at(bytes: &[u8], at: usize) -> u32
+    requires { ⌜ at + 4 ≤ length (now bytes) ⌝ }
+    ensures { λ r. ⌜ r ≡ wordAt (now (bytes .entry)) at ⌝ }
+{
+    let four = [bytes[at], bytes[at + 1], bytes[at + 2], bytes[at + 3]];
+    wide(four[0]) * 16777216 + wide(four[1]) * 65536 + wide(four[2]) * 256 + wide(four[3])
+}
+
+pub(crate) fn wide(x: u8) -> u32
+    ensures { λ r. ⌜ (r ≡ x) × (r < 256) ⌝ }
+{
+    x as u32
+}

@@ -1,0 +1,23 @@
+// The MAP message body of ITU-T J.112 Annex C, from the channel ID byte on: read and written.
+pub mod after;
+pub mod element;
+pub mod fields;
+pub mod grants;
+pub mod reading;
+pub mod refusal;
+pub mod rules;
+pub mod writing;
+
+pub use after::after_null;
+pub use element::Element;
+pub use fields::Backoff;
+pub use fields::Fields;
+pub use grants::Granted;
+pub use grants::grant;
+pub use reading::Reading;
+pub use reading::Verdict;
+pub use reading::read;
+pub use refusal::Refusal;
+pub use writing::Written;
+pub use writing::lay_out;
+pub use writing::write;

@@ -1,0 +1,111 @@
+// A message read: its fields, how many elements, where the Null stands and the map length.
+ghost use mathlib.Core.Path.{_≡_};
+ghost use Prim.Native.Nat.{_+_, _*_, _≤_};
+ghost use lib.ListN.{length};
+ghost use Rattle.message.specs.Rules.{walked, nothingYet};
+ghost use Rattle.message.specs.Lists.{listed};
+ghost use Rattle.message.specs.Element.{elementIn};
+ghost use Rattle.message.specs.Reading.{verdictOf, headerFault, readOf};
+use crate::element::element_in;
+use crate::element::wide;
+use crate::fields::Fields;
+use crate::fields::bad_backoffs_in;
+use crate::fields::fields_of;
+use crate::refusal::Refusal;
+use crate::rules::Walked;
+use crate::rules::advance;
+use crate::rules::ended;
+use crate::rules::fault;
+use crate::rules::nothing_yet;
+
+pub struct Reading {
+    pub fields: Fields,
+    pub n: u32,
+    pub null: u32,
+    pub length: u32,
+}
+
+pub enum Verdict {
+    Accepted(Reading),
+    Refused(Refusal),
+}
+
+impl Reading {
+    pub const MOST_ELEMENTS: u32 = 240;
+}
+
+// The message's own refusals before any element, or 0.
+fn header_fault(bytes: &[u8]) -> u32
+    ensures { λ r. ⌜ r ≡ headerFault (now (bytes .entry)) ⌝ }
+{
+    if bytes.len() < 16 {
+        return Refusal::SHORT;
+    }
+    let n = wide(bytes[2]);
+    if n == 0 {
+        return Refusal::COUNT;
+    }
+    if Reading::MOST_ELEMENTS < n {
+        return Refusal::COUNT;
+    }
+    if bytes.len() != 16 + 4 * (n as usize) {
+        return Refusal::LENGTH;
+    }
+    if bad_backoffs_in(bytes) {
+        return Refusal::BACKOFF;
+    }
+    0
+}
+
+// The elements in order, up to the first that is at fault.
+fn walk(bytes: &[u8], n: u32) -> Walked
+    requires { ⌜ 16 + 4 * n ≤ length (now bytes) ⌝ }
+    ensures { λ r. ⌜ r ≡ walked 0 nothingYet (listed (elementIn (now (bytes .entry))) 0 n) ⌝ }
+{
+    let mut p = nothing_yet();
+    let mut i: u32 = 0;
+    let out = loop {
+        if n <= i {
+            break ended(p, i);
+        }
+        let e = element_in(bytes, i as usize);
+        let f = fault(p, e);
+        if f != 0 {
+            break Walked::Fault(Refusal {
+                number: f,
+                element: i,
+            });
+        }
+        p = advance(p, e, i);
+        i += 1;
+    };
+    out
+}
+
+fn verdict_of(fields: Fields, n: u32, walked: Walked) -> Verdict
+    ensures { λ r. ⌜ r ≡ verdictOf fields n walked ⌝ }
+{
+    match walked {
+        Walked::Whole { null, length } => Verdict::Accepted(Reading {
+            fields,
+            n,
+            null,
+            length,
+        }),
+        Walked::Fault(refusal) => Verdict::Refused(refusal),
+    }
+}
+
+pub fn read(bytes: &[u8]) -> Verdict
+    ensures { λ r. ⌜ r ≡ readOf (now (bytes .entry)) ⌝ }
+{
+    let f = header_fault(bytes);
+    if f != 0 {
+        return Verdict::Refused(Refusal {
+            number: f,
+            element: 0,
+        });
+    }
+    let n = wide(bytes[2]);
+    verdict_of(fields_of(bytes), n, walk(bytes, n))
+}
