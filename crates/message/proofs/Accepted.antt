@@ -8,23 +8,22 @@ use native.Mathlib.Nat.{sub-zero, zero-add}
 use native.Mathlib.Omega.{arith}
 use lib.Dec.{leb, ltb, eqb}
 use lib.ListN.{length}
-use borrow.Author.Tests.{ltb-false, leb-true, leb-false, eqb-true, eqb-false, eq-eqb, ne-eqb, not-false}
+use borrow.Author.Tests.{ltb-false, leb-true, leb-false, eqb-true, eqb-false, eq-eqb, ne-eqb}
 use Rattle.message.specs.declared.element.Element.{Element}
 use Rattle.message.specs.declared.fields.Fields.{Fields}
 use Rattle.message.specs.declared.rules.Progress.{Progress}
 use Rattle.message.specs.declared.rules.Walked.{Walked}
 use Rattle.message.specs.declared.rules.Walked.the-variants.{Whole, Fault}
 use Rattle.message.specs.declared.reading.Reading.{Reading}
-use Rattle.message.specs.declared.reading.Verdict.{Verdict}
 use Rattle.message.specs.declared.reading.Verdict.the-variants.{Accepted, Refused}
 use Rattle.message.specs.Element.{elementIn, elementAt}
 use Rattle.message.specs.Fields.{fieldsOf, countOf, badBackoff, badBackoffs}
 use Rattle.message.specs.Refusals.{refusal}
 use Rattle.message.specs.Lists.{listed, keep, gather}
 use Rattle.message.specs.Rules.{granting, unknownUse, misordered, wrongSid, misplaced, tooFar, grantTooLong, faultOf, nothingYet, advanced, endedAt, walked}
-use Rattle.message.specs.Map.{Map, Interval, firstOffset, intervals, mapLength, afterNull}
+use Rattle.message.specs.Map.{Interval, firstOffset, intervals, mapLength, afterNull}
 use Rattle.message.specs.Reading.{headerFault, verdictOf, mapOf, readOf}
-use Rattle.message.proofs.Ways.{passed, or-none, advanced-after, Sound, header-sound, element-there}
+use Rattle.message.proofs.Ways.{passed, advanced-after, Sound, header-sound, element-there}
 
 -- what is kept of two lists, and gathered from them
 pub keep-append : {A : Type 0} (p : A → Bool) (xs ys : List A) → keep p (xs ++ ys) ≡ keep p xs ++ keep p ys
@@ -251,12 +250,18 @@ unfolding listed
 elements-at s zero i h = refl
 elements-at s (suc k) i h = rw (element-there s i (omega arith), elements-at s k (i + 1) (omega arith)) refl
 
+-- of four tests that all fail, the second and the third
+middle-none : (r a b c : Bool) → (r || (a || b || c)) ≡ false → (a ≡ false) × (b ≡ false)
+middle-none true a b c h = let z : _≡_ {A = ℕ} 0 1 = cc in absurd (omega arith)
+middle-none false true b c h = let z : _≡_ {A = ℕ} 0 1 = cc in absurd (omega arith)
+middle-none false false true c h = let z : _≡_ {A = ℕ} 0 1 = cc in absurd (omega arith)
+middle-none false false false c h = (refl, refl)
+
 exponents : (f : Fields) → badBackoffs f ≡ false → (f .«data» .start ≤ 15) × (f .«data» .end ≤ 15)
 unfolding badBackoffs
 exponents f h =
-    let d = or-none (badBackoff (f .ranging)) (badBackoff (f .«data»)) h .1 in
-    let both = or-none (ltb 15 (f .«data» .start)) (ltb 15 (f .«data» .end)) (or-none (ltb 15 (f .«data» .start) || ltb 15 (f .«data» .end)) (ltb (f .«data» .end) (f .«data» .start)) d .0) in
-    (ltb-false 15 (f .«data» .start) (both .0), ltb-false 15 (f .«data» .end) (both .1))
+    let d = middle-none (badBackoff (f .ranging)) (ltb 15 (f .«data» .start)) (ltb 15 (f .«data» .end)) (ltb (f .«data» .end) (f .«data» .start)) h in
+    (ltb-false 15 (f .«data» .start) (d .0), ltb-false 15 (f .«data» .end) (d .1))
 
 -- all that is known of an accepted message
 pub record Accept (s : List ℕ) (reading : Reading) : Type 0 where

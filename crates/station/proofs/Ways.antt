@@ -1,0 +1,389 @@
+-- The ways through the station's functions: one law each, about the definitions only.
+use mathlib.Core.Path.{_≡_, refl, sym, _∙_}
+use mathlib.Core.Bool.{Bool, true, false, not, _||_}
+use Prim.Native.Nat.{ℕ, _+_, _*_, _%_, _^_, _≤_, _<_}
+use mathlib.Core.List.{List, [], _∷_}
+use native.Mathlib.Nat.{mod-eq-of-lt, one-mul, zero-add}
+use lib.ListN.{length}
+use lib.Pow.{pow-mono}
+use native.Mathlib.Omega.{arith}
+use lib.Dec.{ltb}
+use borrow.Author.Tests.{lt-ltb, le-ltb, eq-eqb, ne-eqb, not-true}
+use Rattle.slots.specs.declared.time.MiniSlot.{MiniSlot}
+use Rattle.slots.specs.Time.{earlier, ahead, movedOn}
+use Rattle.message.specs.declared.reading.Reading.{Reading}
+use Rattle.message.specs.declared.reading.Verdict.{Verdict}
+use Rattle.message.specs.declared.reading.Verdict.the-variants.{Accepted, Refused}
+use Rattle.message.specs.Lists.{isEmpty}
+use Rattle.message.specs.Map.{intervals, grantsTo}
+use Rattle.message.specs.Reading.{readOf, mapOf}
+use Rattle.message.proofs.Accepted.{accepted}
+use Rattle.station.specs.declared.record.Sent.{Sent}
+use Rattle.station.specs.declared.record.Sent.the-variants as sent
+use Rattle.station.specs.declared.record.Answer.the-variants as answer
+use Rattle.station.specs.declared.record.Hearing.{Hearing}
+use Rattle.station.specs.declared.opportunity.Found.{Found}
+use Rattle.station.specs.declared.hearing.Taken.{Taken}
+use Rattle.message.specs.declared.fields.Fields.{Fields}
+use Rattle.message.specs.Sids.{unicast}
+use Rattle.message.specs.declared.refusal.Refusal.{Refusal}
+use Rattle.message.proofs.Ways.{said, said-not}
+use Rattle.station.specs.declared.record.Phase.{Phase}
+use Rattle.station.specs.declared.record.Phase.the-variants.{Idle, Wanting, Deferring, Waiting}
+use Rattle.station.specs.declared.record.Remembered.{Remembered}
+use Rattle.station.specs.declared.record.Remembered.the-variants.{Nothing, End}
+use Rattle.station.specs.declared.record.Station.{Station}
+use Rattle.station.specs.declared.record.Offered.the-variants as offered
+use Rattle.station.specs.declared.record.SetUp.the-variants as setUp
+use Rattle.station.specs.Records.{badSize, badR, badPhase, recordFault}
+use Rattle.station.specs.Backoffs.{firstExponent, nextExponent, drawn}
+use Rattle.station.specs.Opportunities.{contention, own}
+use Rattle.station.specs.Scan.{firstOf, foundIn}
+use Rattle.station.specs.Steps.{granted, lost, acknowledged, deferred, passing, offeredOwn, sending, waitingSince, sentBy}
+use Rattle.station.specs.Hearing.{stale, hearFault, hasPending, readyPhase, quietPhase, phaseAfter, requestIn, burstsIn, takenIn, stationAfter, hearing, hearingOf, hearOf}
+use Rattle.station.specs.Offering.{fresh, setUpOf, idle, offerFault, wanting, offerOf}
+
+module _ (p : Phase) where
+  pub bad-idle : p ≡ Idle → false ≡ badPhase p
+  unfolding badPhase
+  bad-idle e = rw e refl
+
+  pub bad-wanting : (size : ℕ) (b : Bool) → p ≡ Wanting size → b ≡ badSize size → b ≡ badPhase p
+  unfolding badPhase
+  bad-wanting size b e h = rw e h
+
+  pub bad-deferring : (exponent left retries size : ℕ) (b : Bool) → p ≡ Deferring exponent left retries size → b ≡ badSize size → (b || ltb 15 exponent || ltb 16 retries || ltb 32767 left) ≡ badPhase p
+  unfolding badPhase
+  bad-deferring exponent left retries size b e h = rw (e, h) refl
+
+  pub bad-waiting : (exponent retries : ℕ) (time : MiniSlot) (size : ℕ) (b : Bool) → p ≡ Waiting exponent retries time size → b ≡ badSize size → (b || ltb 15 exponent || ltb 16 retries) ≡ badPhase p
+  unfolding badPhase
+  bad-waiting exponent retries time size b e h = rw (e, h) refl
+
+  pub busy-idle : p ≡ Idle → false ≡ not (idle p)
+  unfolding idle
+  busy-idle e = rw e refl
+
+  pub busy-wanting : (size : ℕ) → p ≡ Wanting size → true ≡ not (idle p)
+  unfolding idle
+  busy-wanting size e = rw e refl
+
+  pub busy-deferring : (exponent left retries size : ℕ) → p ≡ Deferring exponent left retries size → true ≡ not (idle p)
+  unfolding idle
+  busy-deferring exponent left retries size e = rw e refl
+
+  pub busy-waiting : (exponent retries : ℕ) (time : MiniSlot) (size : ℕ) → p ≡ Waiting exponent retries time size → true ≡ not (idle p)
+  unfolding idle
+  busy-waiting exponent retries time size e = rw e refl
+
+module _ (st : Station) where
+  pub record-6 : not (unicast (st .sid)) ≡ true → 6 ≡ recordFault st
+  unfolding recordFault
+  record-6 a = rw a refl
+
+  pub record-r : not (unicast (st .sid)) ≡ false → badR (st .r) ≡ true → 17 ≡ recordFault st
+  unfolding recordFault
+  record-r a b = rw (a, b) refl
+
+  pub record-phase : not (unicast (st .sid)) ≡ false → badR (st .r) ≡ false → badPhase (st .phase) ≡ true → 17 ≡ recordFault st
+  unfolding recordFault
+  record-phase a b c = rw (a, b, c) refl
+
+  pub record-good : not (unicast (st .sid)) ≡ false → badR (st .r) ≡ false → badPhase (st .phase) ≡ false → 0 ≡ recordFault st
+  unfolding recordFault
+  record-good a b c = rw (a, b, c) refl
+
+  module _ (size f : ℕ) (is : f ≡ recordFault st) where
+    pub offer-record : (f ≡ 0 → ⊥) → f ≡ offerFault st size
+    unfolding offerFault
+    offer-record h = rw (ne-eqb (recordFault st) 0 (λ z. h (is ∙ z))) is
+
+    pub offer-16 : f ≡ 0 → not (idle (st .phase)) ≡ true → 16 ≡ offerFault st size
+    unfolding offerFault
+    offer-16 h a = rw (sym is ∙ h, a) refl
+
+    pub offer-17 : f ≡ 0 → not (idle (st .phase)) ≡ false → badSize size ≡ true → 17 ≡ offerFault st size
+    unfolding offerFault
+    offer-17 h a b = rw (sym is ∙ h, a, b) refl
+
+    pub offer-good : f ≡ 0 → not (idle (st .phase)) ≡ false → badSize size ≡ false → 0 ≡ offerFault st size
+    unfolding offerFault
+    offer-good h a b = rw (sym is ∙ h, a, b) refl
+
+  module _ (size f : ℕ) (is : f ≡ offerFault st size) where
+    pub offer-refused : (f ≡ 0 → ⊥) → record { station = st; answer = offered.Refused (record { number = f; element = 0 }) } ≡ offerOf st size
+    unfolding offerOf
+    offer-refused h = rw (ne-eqb (offerFault st size) 0 (λ z. h (is ∙ z)), ← is) refl
+
+    pub offer-taken : f ≡ 0 → record { station = wanting st size; answer = offered.Taken } ≡ offerOf st size
+    unfolding offerOf
+    offer-taken h = rw (sym is ∙ h) refl
+
+module _ (sid channel count r : ℕ) where
+  pub set-up-6 : not (unicast sid) ≡ true → setUp.Refused (record { number = 6; element = 0 }) ≡ setUpOf sid channel count r
+  unfolding setUpOf
+  set-up-6 a = rw a refl
+
+  pub set-up-17 : not (unicast sid) ≡ false → badR r ≡ true → setUp.Refused (record { number = 17; element = 0 }) ≡ setUpOf sid channel count r
+  unfolding setUpOf
+  set-up-17 a b = rw (a, b) refl
+
+  pub set-up-ready : not (unicast sid) ≡ false → badR r ≡ false → setUp.Ready (fresh sid channel count r) ≡ setUpOf sid channel count r
+  unfolding setUpOf
+  set-up-ready a b = rw (a, b) refl
+
+-- the number of opportunities to pass, worked out in 32 bits
+pub power-fits : (exponent : ℕ) → exponent ≤ 15 → 1 * 2 ^ exponent % 4294967296 ≡ 2 ^ exponent
+power-fits exponent h = let most : 2 ^ exponent ≤ 2 ^ 15 = pow-mono h in rw (one-mul (2 ^ exponent)) (mod-eq-of-lt (omega arith))
+
+module _ (b : Bool) (p : Phase) where
+  pub granted-idle : p ≡ Idle → Idle ≡ granted b p
+  unfolding granted
+  granted-idle e = rw e refl
+
+  pub granted-wanting : (size : ℕ) → p ≡ Wanting size → Idle ≡ granted b p
+  unfolding granted
+  granted-wanting size e = rw e refl
+
+  pub granted-deferring : (exponent left retries size : ℕ) → p ≡ Deferring exponent left retries size → Idle ≡ granted b p
+  unfolding granted
+  granted-deferring exponent left retries size e = rw e refl
+
+  module _ (exponent retries : ℕ) (time : MiniSlot) (size : ℕ) (is : p ≡ Waiting exponent retries time size) where
+    pub granted-pending : b ≡ true → Waiting exponent retries time size ≡ granted b p
+    unfolding granted
+    granted-pending h = rw (is, h) refl
+
+    pub granted-waiting : b ≡ false → Idle ≡ granted b p
+    unfolding granted
+    granted-waiting h = rw (is, h) refl
+
+module _ (f : Fields) (draw exponent retries size : ℕ) where
+  pub lost-dropped : 16 ≤ retries → Idle ≡ lost f draw exponent retries size
+  unfolding lost
+  lost-dropped h = rw (lt-ltb 16 (retries + 1) (omega arith)) refl
+
+  pub lost-again : (next left : ℕ) → retries < 16 → next ≡ nextExponent f exponent → left ≡ drawn draw next → Deferring next left (retries + 1) size ≡ lost f draw exponent retries size
+  unfolding lost
+  lost-again next left h n l = rw (le-ltb 16 (retries + 1) (omega arith), l, n) refl
+
+module _ (w : ℕ) (b : Bool) (f : Fields) (draw : ℕ) (p : Phase) where
+  pub acknowledged-idle : p ≡ Idle → p ≡ acknowledged w b f draw p
+  unfolding acknowledged
+  acknowledged-idle e = rw e refl
+
+  pub acknowledged-wanting : (size : ℕ) → p ≡ Wanting size → Wanting size ≡ acknowledged w b f draw p
+  unfolding acknowledged
+  acknowledged-wanting size e = rw e refl
+
+  pub acknowledged-deferring : (exponent left retries size : ℕ) → p ≡ Deferring exponent left retries size → Deferring exponent left retries size ≡ acknowledged w b f draw p
+  unfolding acknowledged
+  acknowledged-deferring exponent left retries size e = rw e refl
+
+  module _ (exponent retries : ℕ) (time : MiniSlot) (size : ℕ) (is : p ≡ Waiting exponent retries time size) where
+    pub acknowledged-pending : b ≡ true → Waiting exponent retries time size ≡ acknowledged w b f draw p
+    unfolding acknowledged
+    acknowledged-pending h = rw (is, h) refl
+
+    pub acknowledged-lost : (q : Phase) → b ≡ false → earlier w (time .0) (f .ack .0) ≡ true → q ≡ lost f draw exponent retries size → q ≡ acknowledged w b f draw p
+    unfolding acknowledged
+    acknowledged-lost q h e l = rw (is, h, e) l
+
+    pub acknowledged-waiting : b ≡ false → earlier w (time .0) (f .ack .0) ≡ false → Waiting exponent retries time size ≡ acknowledged w b f draw p
+    unfolding acknowledged
+    acknowledged-waiting h e = rw (is, h, e) refl
+
+module _ (f : Fields) (draw : ℕ) (p : Phase) where
+  pub deferred-idle : p ≡ Idle → p ≡ deferred f draw p
+  unfolding deferred
+  deferred-idle e = rw e refl
+
+  pub deferred-wanting : (size left : ℕ) → p ≡ Wanting size → left ≡ drawn draw (firstExponent f) → Deferring (firstExponent f) left 0 size ≡ deferred f draw p
+  unfolding deferred
+  deferred-wanting size left e l = rw (e, l) refl
+
+  pub deferred-deferring : (exponent left retries size : ℕ) → p ≡ Deferring exponent left retries size → Deferring exponent left retries size ≡ deferred f draw p
+  unfolding deferred
+  deferred-deferring exponent left retries size e = rw e refl
+
+  pub deferred-waiting : (exponent retries : ℕ) (time : MiniSlot) (size : ℕ) → p ≡ Waiting exponent retries time size → Waiting exponent retries time size ≡ deferred f draw p
+  unfolding deferred
+  deferred-waiting exponent retries time size e = rw e refl
+
+-- step 4, by the first of the own Requests
+module _ (os cs : List ℕ) (p : Phase) (first : Sent) where
+  pub sending-idle : p ≡ Idle → p ≡ sending os cs p
+  unfolding sending
+  sending-idle e = rw e refl
+
+  pub sending-wanting : (size : ℕ) → p ≡ Wanting size → Wanting size ≡ sending os cs p
+  unfolding sending
+  sending-wanting size e = rw e refl
+
+  pub sending-waiting : (exponent retries : ℕ) (time : MiniSlot) (size : ℕ) → p ≡ Waiting exponent retries time size → Waiting exponent retries time size ≡ sending os cs p
+  unfolding sending
+  sending-waiting exponent retries time size e = rw e refl
+
+  module _ (exponent left retries size : ℕ) (is : p ≡ Deferring exponent left retries size) (of : first ≡ firstOf sent.Nothing os) where
+    pub sending-own : (q : Phase) (time : MiniSlot) → first ≡ sent.At time → q ≡ Waiting exponent retries time size → q ≡ sending os cs p
+    unfolding sending firstOf offeredOwn
+    sending-own q time e h = rw is (h ∙ go os (sym of ∙ e))
+      where
+        go : (l : List ℕ) → firstOf sent.Nothing l ≡ sent.At time → Waiting exponent retries time size ≡ offeredOwn l cs exponent left retries size
+        go [] h = let z : _≡_ {A = ℕ} 0 1 = cc in absurd (omega arith)
+        go (t ∷ ts) h = let z : record { 0 = t } ≡ time = cc in rw z refl
+
+    pub sending-contention : (q : Phase) → first ≡ sent.Nothing → q ≡ passing cs exponent left retries size → q ≡ sending os cs p
+    unfolding sending firstOf offeredOwn
+    sending-contention q e h = rw is (h ∙ go os (sym of ∙ e))
+      where
+        go : (l : List ℕ) → firstOf sent.Nothing l ≡ sent.Nothing → passing cs exponent left retries size ≡ offeredOwn l cs exponent left retries size
+        go [] h = refl
+        go (t ∷ ts) h = let z : _≡_ {A = ℕ} 0 1 = cc in absurd (omega arith)
+
+module _ (p : Phase) where
+  pub since-idle : p ≡ Idle → sent.Nothing ≡ waitingSince p
+  unfolding waitingSince
+  since-idle e = rw e refl
+
+  pub since-wanting : (size : ℕ) → p ≡ Wanting size → sent.Nothing ≡ waitingSince p
+  unfolding waitingSince
+  since-wanting size e = rw e refl
+
+  pub since-deferring : (exponent left retries size : ℕ) → p ≡ Deferring exponent left retries size → sent.Nothing ≡ waitingSince p
+  unfolding waitingSince
+  since-deferring exponent left retries size e = rw e refl
+
+  pub since-waiting : (exponent retries : ℕ) (time : MiniSlot) (size : ℕ) → p ≡ Waiting exponent retries time size → sent.At time ≡ waitingSince p
+  unfolding waitingSince
+  since-waiting exponent retries time size e = rw e refl
+
+  module _ (after : Phase) where
+    pub sent-idle : p ≡ Idle → sent.Nothing ≡ sentBy p after
+    unfolding sentBy
+    sent-idle e = rw e refl
+
+    pub sent-wanting : (size : ℕ) → p ≡ Wanting size → sent.Nothing ≡ sentBy p after
+    unfolding sentBy
+    sent-wanting size e = rw e refl
+
+    pub sent-deferring : (exponent left retries size : ℕ) (s : Sent) → p ≡ Deferring exponent left retries size → s ≡ waitingSince after → s ≡ sentBy p after
+    unfolding sentBy
+    sent-deferring exponent left retries size s e h = rw e h
+
+    pub sent-waiting : (exponent retries : ℕ) (time : MiniSlot) (size : ℕ) → p ≡ Waiting exponent retries time size → sent.Nothing ≡ sentBy p after
+    unfolding sentBy
+    sent-waiting exponent retries time size e = rw e refl
+
+module _ (end : Remembered) (start : ℕ) where
+  pub stale-never : end ≡ Nothing → false ≡ stale 32 end start
+  unfolding stale
+  stale-never e = rw e refl
+
+  pub stale-end : (time : MiniSlot) (a : ℕ) → end ≡ End time → a ≡ ahead 32 (time .0) start → not (ltb a 2147483648) ≡ stale 32 end start
+  unfolding stale
+  stale-end time a e h = rw (e, h) refl
+
+module _ (st : Station) (f : Fields) (present : ℕ) where
+  pub hear-12 : (f .channel ≡ st .channel → ⊥) → 12 ≡ hearFault st f present
+  unfolding hearFault
+  hear-12 a = rw (ne-eqb (f .channel) (st .channel) a) refl
+
+  module _ (a : f .channel ≡ st .channel) where
+    pub hear-13 : (f .count ≡ st .count → ⊥) → 13 ≡ hearFault st f present
+    unfolding hearFault
+    hear-13 b = rw (eq-eqb (f .channel) (st .channel) a, ne-eqb (f .count) (st .count) b) refl
+
+    module _ (b : f .count ≡ st .count) where
+      pub hear-14 : stale 32 (st .end) (f .start .0) ≡ true → 14 ≡ hearFault st f present
+      unfolding hearFault
+      hear-14 c = rw (eq-eqb (f .channel) (st .channel) a, eq-eqb (f .count) (st .count) b, c) refl
+
+      pub hear-15 : stale 32 (st .end) (f .start .0) ≡ false → not (earlier 32 present (f .start .0)) ≡ true → 15 ≡ hearFault st f present
+      unfolding hearFault
+      hear-15 c d = rw (eq-eqb (f .channel) (st .channel) a, eq-eqb (f .count) (st .count) b, c, d) refl
+
+      pub hear-good : stale 32 (st .end) (f .start .0) ≡ false → not (earlier 32 present (f .start .0)) ≡ false → 0 ≡ hearFault st f present
+      unfolding hearFault
+      hear-good c d = rw (eq-eqb (f .channel) (st .channel) a, eq-eqb (f .count) (st .count) b, c, d) refl
+
+some : {A : Type 0} (xs : List A) → (length xs ≡ 0 → ⊥) → not (isEmpty xs) ≡ true
+some [] h = absurd (h refl)
+some (x ∷ xs) h = refl
+
+none : {A : Type 0} (xs : List A) → length xs ≡ 0 → not (isEmpty xs) ≡ false
+none [] h = refl
+none (x ∷ xs) h = absurd (omega arith)
+
+module _ (s : List ℕ) (reading : Reading) (ok : readOf s ≡ Accepted reading) where
+  pub starts-small : reading .fields .«data» .start ≤ 15
+  starts-small = accepted s reading ok .first-exponent
+
+  pub ends-small : reading .fields .«data» .end ≤ 15
+  ends-small = accepted s reading ok .last-exponent
+
+  module _ (st : Station) (present draw f : ℕ) (is : f ≡ hearFault st (reading .fields) present) where
+    pub hear-refused : (f ≡ 0 → ⊥) → record { station = st; answer = answer.Refused (record { number = f; element = 0 }) } ≡ hearing st (mapOf s) present draw
+    unfolding hearing
+    hear-refused h = rw (← accepted s reading ok .fields, ne-eqb (hearFault st (reading .fields) present) 0 (λ z. h (is ∙ z)), ← is) refl
+
+    pub hear-heard : (taken : Taken) (end : MiniSlot) → f ≡ 0 → taken ≡ takenIn st (mapOf s) draw → end .0 ≡ movedOn 32 (reading .fields .start .0) (reading .length) →
+        _≡_ {A = Hearing} (record {
+          station = record { sid = st .sid; channel = st .channel; count = st .count; r = st .r; end = End end; phase = taken .phase };
+          answer = answer.Heard (taken .bursts) (taken .request);
+        }) (hearing st (mapOf s) present draw)
+    unfolding hearing stationAfter
+    hear-heard taken end z t e =
+        let a = accepted s reading ok in
+        let at : end ≡ record { 0 = movedOn 32 (reading .fields .start .0) (reading .length) } = λ i. record { 0 = e i } in
+        rw (t, at, ← a .ends, ← a .fields, sym is ∙ z) refl
+
+-- hearing what was read
+module _ (st : Station) (s : List ℕ) (v : Verdict) (present draw : ℕ) where
+  pub verdict-refused : (why : Refusal) → v ≡ readOf s → v ≡ Refused why → record { station = st; answer = answer.Refused why } ≡ hearingOf st (readOf s) (mapOf s) present draw
+  verdict-refused why h e = rw (sym h ∙ e) refl
+
+  pub verdict-accepted : (reading : Reading) (r : Hearing) → v ≡ readOf s → v ≡ Accepted reading → r ≡ hearing st (mapOf s) present draw → r ≡ hearingOf st (readOf s) (mapOf s) present draw
+  verdict-accepted reading r h e k = rw (sym h ∙ e) k
+
+pub verdict-read : (s : List ℕ) (v : Verdict) (reading : Reading) → v ≡ readOf s → v ≡ Accepted reading → readOf s ≡ Accepted reading
+verdict-read s v reading h e = sym h ∙ e
+
+module _ (st : Station) (s : List ℕ) (present draw f : ℕ) (is : f ≡ recordFault st) where
+  pub hear-record : (f ≡ 0 → ⊥) → record { station = st; answer = answer.Refused (record { number = f; element = 0 }) } ≡ hearOf st s present draw
+  unfolding hearOf
+  hear-record h = rw (ne-eqb (recordFault st) 0 (λ z. h (is ∙ z)), ← is) refl
+
+  pub hear-message : (r : Hearing) → f ≡ 0 → r ≡ hearingOf st (readOf s) (mapOf s) present draw → r ≡ hearOf st s present draw
+  unfolding hearOf
+  hear-message r h e = rw (sym is ∙ h) e
+
+-- the four steps together
+module _ (s : List ℕ) (reading : Reading) (ok : readOf s ≡ Accepted reading) (st : Station) (found : Found) (is : found ≡ foundIn (reading .fields .start .0) (st .sid) (st .r) (record { bursts = 0; own = sent.Nothing }) (intervals (mapOf s .elements))) where
+  found-bursts : found .bursts ≡ burstsIn st (mapOf s)
+  unfolding foundIn grantsTo
+  found-bursts = rw (is, zero-add) refl
+
+  pub found-own : found .own ≡ firstOf sent.Nothing (own (st .sid) (st .r) (mapOf s))
+  unfolding foundIn own
+  found-own = rw (is, accepted s reading ok .fields) refl
+
+  module _ (draw : ℕ) (waits : Bool) (pending : waits ≡ hasPending st (mapOf s)) where
+    pub taken-granted : (q : Phase) → (found .bursts ≡ 0 → ⊥) → q ≡ granted waits (st .phase) → record { bursts = found .bursts; phase = q; request = sent.Nothing } ≡ takenIn st (mapOf s) draw
+    unfolding phaseAfter requestIn
+    taken-granted q h g = rw (some (grantsTo (st .sid) (mapOf s .elements)) (λ z. h (found-bursts ∙ z)), g, pending, found-bursts) refl
+
+    pub taken-quiet : (p ready after : Phase) (request : Sent) → found .bursts ≡ 0 → p ≡ acknowledged 32 waits (reading .fields) draw (st .phase) → ready ≡ deferred (reading .fields) draw p →
+        after ≡ sending (own (st .sid) (st .r) (mapOf s)) (contention (st .r) (mapOf s)) ready → request ≡ sentBy ready after →
+        record { bursts = 0; phase = after; request = request } ≡ takenIn st (mapOf s) draw
+    unfolding phaseAfter requestIn quietPhase readyPhase
+    taken-quiet p ready after request h a d e r =
+        rw (none (grantsTo (st .sid) (mapOf s .elements)) (sym found-bursts ∙ h), sym found-bursts ∙ h, r, e, d, a, pending, accepted s reading ok .fields) refl
+
+pub ruleset record-ways = (said, said-not, not-true, bad-idle, bad-wanting, bad-deferring, bad-waiting, busy-idle, busy-wanting, busy-deferring, busy-waiting, record-6, record-r, record-phase, record-good, offer-record, offer-16, offer-17, offer-good, offer-refused, offer-taken, set-up-6, set-up-17, set-up-ready)
+
+pub ruleset step-ways = (said, said-not, not-true, granted-idle, granted-wanting, granted-deferring, granted-pending, granted-waiting, lost-dropped, lost-again, acknowledged-idle, acknowledged-wanting, acknowledged-deferring, acknowledged-pending, acknowledged-lost, acknowledged-waiting, deferred-idle, deferred-wanting, deferred-deferring, deferred-waiting)
+
+pub ruleset send-ways = (sending-idle, sending-wanting, sending-waiting, sending-own, sending-contention, since-idle, since-wanting, since-deferring, since-waiting, sent-idle, sent-wanting, sent-deferring, sent-waiting)
+
+pub ruleset hear-ways = (said, said-not, not-true, stale-never, stale-end, hear-12, hear-13, hear-14, hear-15, hear-good)

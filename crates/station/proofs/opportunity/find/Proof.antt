@@ -1,0 +1,72 @@
+use Rattle.station.proofs.Scanning.{null-early, rises-on, find-begins, find-end, find-next, find-few}
+use Rattle.message.specs.Lists.{listed}
+use Rattle.station.specs.Scan.{foundIn}
+use Rattle.station.specs.declared.record.Sent.the-variants.{Nothing}
+use Rattle.message.specs.Reading.{mapOf}
+use Rattle.message.specs.Map.{intervals}
+use Rattle.message.specs.Element.{elementAt}
+use Prim.Native.Nat.{_-_, _≤_, _<_}
+use mathlib.Core.Path.{_≡_}
+use borrow.Author.Needs.{needs}
+use Rattle.station.proofs.opportunity.find.Statement.{statement}
+use Rattle.station.proofs.opportunity.find.Tie as tie
+
+abbrev Inv-loop : tie.InvT-loop
+Inv-loop bytes reading sid r start found₀ e₀ i₀ found e i =
+    (reading .null < 240) × (i ≤ reading .null) × (e ≡ elementAt bytes i) × (found .bursts ≤ i)
+    × (foundIn (reading .fields .start .0) sid r found (intervals (listed (elementAt bytes) i (reading .n - i)))
+    ≡ foundIn (reading .fields .start .0) sid r (record { bursts = 0; own = Nothing }) (intervals (mapOf bytes .elements)))
+
+abbrev μ-loop : tie.MeasureT-loop
+μ-loop bytes reading sid r start found₀ e₀ i₀ found e i = reading .null - i
+
+at-requires : tie.Need-at-requires Inv-loop μ-loop
+at-requires c κs = search needs
+
+loop-holds : tie.Need-loop-holds Inv-loop μ-loop
+loop-holds c = (search null-early, search needs, search needs, search needs, search find-begins)
+
+add-at : tie.Need-add-at Inv-loop μ-loop
+add-at c = search needs
+
+cast-at : tie.Need-cast-at Inv-loop μ-loop
+cast-at c = search needs
+
+at-requires-2 : tie.Need-at-requires-2 Inv-loop μ-loop
+at-requires-2 c κs = search needs
+
+sub-noted : tie.Need-sub-noted Inv-loop μ-loop
+sub-noted c = search rises-on
+
+noted-requires : tie.Need-noted-requires Inv-loop μ-loop
+noted-requires c κs = search needs
+
+add-i : tie.Need-add-i Inv-loop μ-loop
+add-i c = search needs
+
+loop-less : tie.Need-loop-less Inv-loop μ-loop
+loop-less c = search needs
+
+loop-again : tie.Need-loop-again Inv-loop μ-loop
+loop-again c = (search needs, search needs, search needs, search find-few, search find-next)
+
+returns : tie.Need-returns Inv-loop μ-loop
+returns c = search find-end
+
+pub find-spec : {M : Type 1} → statement M
+find-spec =
+    tie.close
+    (tie.spec
+    Inv-loop
+    μ-loop
+    at-requires
+    loop-holds
+    add-at
+    cast-at
+    at-requires-2
+    sub-noted
+    noted-requires
+    add-i
+    loop-less
+    loop-again
+    returns)

@@ -1,0 +1,99 @@
+use Rattle.station.proofs.Scanning.{null-early, rises-on, place-fits, place-after-fits, pass-begins, pass-end, pass-next, pass-sends}
+use Rattle.station.specs.Steps.{passing}
+use Rattle.station.specs.Opportunities.{contentionIn, contention}
+use Rattle.message.specs.Reading.{mapOf}
+use Rattle.message.specs.Map.{intervals}
+use Rattle.message.specs.Lists.{listed}
+use Rattle.message.specs.Lists.{gather}
+use Rattle.message.specs.Element.{elementAt}
+use Rattle.slots.specs.Time.{movedOn}
+use Prim.Native.Nat.{_-_, _≤_, _<_}
+use mathlib.Core.List.{map}
+use mathlib.Core.Path.{_≡_}
+use borrow.Author.Needs.{needs}
+use Rattle.station.proofs.opportunity.pass.Statement.{statement}
+use Rattle.station.proofs.opportunity.pass.Tie as tie
+
+abbrev Inv-loop : tie.InvT-loop
+Inv-loop bytes reading r exponent left retries size start left₀ e₀ i₀ left' e i =
+    (reading .null < 240) × (i ≤ reading .null) × (e ≡ elementAt bytes i)
+    × (passing (map (movedOn 32 (start .0)) (gather (contentionIn r) (intervals (listed (elementAt bytes) i (reading .n - i))))) exponent left' retries size
+    ≡ passing (contention r (mapOf bytes)) exponent left retries size)
+
+abbrev μ-loop : tie.MeasureT-loop
+μ-loop bytes reading r exponent left retries size start left₀ e₀ i₀ left' e i = reading .null - i
+
+at-requires : tie.Need-at-requires Inv-loop μ-loop
+at-requires c κs = search needs
+
+loop-holds : tie.Need-loop-holds Inv-loop μ-loop
+loop-holds c = (search null-early, search needs, search needs, search pass-begins)
+
+add-at : tie.Need-add-at Inv-loop μ-loop
+add-at c = search needs
+
+cast-at : tie.Need-cast-at Inv-loop μ-loop
+cast-at c = search needs
+
+at-requires-2 : tie.Need-at-requires-2 Inv-loop μ-loop
+at-requires-2 c κs = search needs
+
+step-of-requires : tie.Need-step-of-requires Inv-loop μ-loop
+step-of-requires c κs = search needs
+
+sub-count-of : tie.Need-sub-count-of Inv-loop μ-loop
+sub-count-of c = search rises-on
+
+count-of-requires : tie.Need-count-of-requires Inv-loop μ-loop
+count-of-requires c κs = search needs
+
+mul-moved-on : tie.Need-mul-moved-on Inv-loop μ-loop
+mul-moved-on c = record { fits = search place-fits }
+
+add-moved-on : tie.Need-add-moved-on Inv-loop μ-loop
+add-moved-on c = record { fits = search place-after-fits }
+
+moved-on-requires : tie.Need-moved-on-requires Inv-loop μ-loop
+moved-on-requires c κs = search needs
+
+sent-at-requires : tie.Need-sent-at-requires Inv-loop μ-loop
+sent-at-requires c κs = search needs
+
+add-i : tie.Need-add-i Inv-loop μ-loop
+add-i c = search needs
+
+loop-less : tie.Need-loop-less Inv-loop μ-loop
+loop-less c = search needs
+
+loop-again : tie.Need-loop-again Inv-loop μ-loop
+loop-again c = (search needs, search needs, search needs, search pass-next)
+
+returns : tie.Need-returns Inv-loop μ-loop
+returns c = search pass-end
+
+returns-2 : tie.Need-returns-2 Inv-loop μ-loop
+returns-2 c = search pass-sends
+
+pub pass-spec : {M : Type 1} → statement M
+pass-spec =
+    tie.close
+    (tie.spec
+    Inv-loop
+    μ-loop
+    at-requires
+    loop-holds
+    add-at
+    cast-at
+    at-requires-2
+    step-of-requires
+    sub-count-of
+    count-of-requires
+    mul-moved-on
+    add-moved-on
+    moved-on-requires
+    sent-at-requires
+    add-i
+    loop-less
+    loop-again
+    returns
+    returns-2)

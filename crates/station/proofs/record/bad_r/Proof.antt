@@ -1,0 +1,12 @@
+use borrow.Author.Needs.{needs}
+use Rattle.station.proofs.record.bad_r.Statement.{statement}
+use Rattle.station.proofs.record.bad_r.Tie as tie
+
+within-requires : tie.Need-within-requires
+within-requires c κs = search needs
+
+returns : tie.Need-returns
+returns c = rw (c .within .ensures)
+
+pub bad-r-spec : {M : Type 1} → statement M
+bad-r-spec = tie.close (tie.spec within-requires returns)
