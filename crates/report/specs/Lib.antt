@@ -1,0 +1,4 @@
+pub mod Bodies
+pub mod Decimal
+pub mod Text
+pub mod Report
