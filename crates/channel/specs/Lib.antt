@@ -1,0 +1,3 @@
+pub mod History
+pub mod Claims
+pub mod Numbers
