@@ -1,22 +1,19 @@
 -- The ways through set-up, the check of a record, and a request: one law each, about the definitions only.
-use mathlib.Core.Path.{_≡_, refl, sym, _∙_, ap}
+use mathlib.Core.Path.{_≡_, refl, sym, _∙_}
 use mathlib.Core.Bool.{Bool, true, false, cond, not, _||_}
-use mathlib.Core.List.{List, [], _∷_, _++_}
-use Prim.Native.Nat.{ℕ, zero, suc, _+_, _-_, min, _≤_, _<_}
-use native.Mathlib.Omega.{arith}
+use mathlib.Core.List.{List}
+use Prim.Native.Nat.{ℕ, zero, _+_, _-_, min, _≤_, _<_}
 use lib.Dec.{leb, ltb, eqb}
-use lib.ListN.{getD, set, replicate}
+use lib.ListN.{set}
 use borrow.Author.Tests.{lt-ltb, le-ltb, le-leb, lt-leb, eq-eqb, ne-eqb, not-true, not-false, ltb-false, leb-false, eqb-true, eqb-false}
 use Rattle.slots.specs.declared.time.MiniSlot.{MiniSlot}
 use Rattle.slots.specs.Time.{earlier}
 use Rattle.message.specs.declared.fields.Backoff.{Backoff}
 use Rattle.message.specs.Fields.{badBackoff}
-use Rattle.message.specs.Sids.{within, unicast}
-use Rattle.message.specs.Lists.{listed}
+use Rattle.message.specs.Sids.{unicast}
 use Rattle.message.proofs.Ways.{said, said-not, passed}
 use Rattle.headend.specs.declared.record.Headend.{Headend}
 use Rattle.headend.specs.declared.record.SetUp.{SetUp}
-use Rattle.headend.specs.declared.record.Taking.{Taking}
 use Rattle.headend.specs.declared.record.Taken.{Taken}
 use Rattle.headend.specs.declared.record.Taken.the-variants as taken
 use Rattle.headend.specs.Requests.{Request, requestAt, heldOf, firstOf}

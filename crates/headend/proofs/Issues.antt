@@ -1,17 +1,16 @@
 -- The ways through issuing: one law each, about the definitions only.
 use mathlib.Core.Path.{_≡_, refl, sym, _∙_, ap}
-use mathlib.Core.Bool.{Bool, true, false, cond, not, _||_}
-use mathlib.Core.List.{List, [], _∷_, _++_, map, append-assoc}
+use mathlib.Core.Bool.{Bool, true, false, _||_}
+use mathlib.Core.List.{List, [], _∷_, _++_, append-assoc}
 use Prim.Native.Nat.{ℕ, zero, suc, _+_, _-_, _*_, _≤_, _<_}
 use native.Mathlib.Omega.{arith}
 use native.Mathlib.Nat.{zero-add, sub-zero, min-le-left}
-use lib.Dec.{leb, ltb, eqb}
+use lib.Dec.{ltb, eqb}
 use lib.ListN.{length, take, drop, getD, set, replicate, length-append, length-take}
 use lib.Seq.{set-at, take-at, take-length}
-use borrow.Author.Tests.{lt-ltb, le-ltb, eq-eqb, ne-eqb, ltb-false, eqb-false, eqb-true, le-leb}
+use borrow.Author.Tests.{lt-ltb, le-ltb, eq-eqb, ne-eqb, ltb-false, eqb-false, le-leb}
 use Rattle.slots.specs.declared.time.MiniSlot.{MiniSlot}
 use Rattle.slots.specs.Time.{ahead, movedOn}
-use Rattle.message.specs.declared.element.Element.{Element}
 use Rattle.message.specs.declared.fields.Fields.{Fields}
 use Rattle.message.specs.declared.reading.Verdict.{Verdict}
 use Rattle.message.specs.declared.reading.Verdict.the-variants as verdict
@@ -19,25 +18,24 @@ use Rattle.message.specs.declared.reading.Reading.{Reading}
 use Rattle.message.specs.declared.refusal.Refusal.{Refusal}
 use Rattle.message.specs.Lists.{listed}
 use Rattle.message.specs.Reading.{readOf}
-use Rattle.message.specs.Writing.{messageOf, laidOut, onto}
+use Rattle.message.specs.Writing.{messageOf, laidOut}
 use Rattle.message.proofs.Stores.{listed-last, length-listed, length-message}
 use Rattle.message.proofs.Ways.{said, passed, or-none}
 use Rattle.headend.specs.declared.record.Headend.{Headend}
 use Rattle.headend.specs.declared.record.Issuing.{Issuing}
-use Rattle.headend.specs.declared.record.Issued.{Issued}
 use Rattle.headend.specs.declared.record.Issued.the-variants as issued
-use Rattle.headend.specs.Requests.{Request, requestAt, heldOf, placesOf, sidsOf, sizesOf, firstsOf, firstHeld, afterFirst}
+use Rattle.headend.specs.Requests.{Request, requestAt, heldOf, placesOf, firstHeld, afterFirst}
 use Rattle.headend.specs.Records.{withPlaces, recordFault}
 use Rattle.headend.specs.Plan.{granted, pending, total, elementsOf}
 use Rattle.headend.specs.Issue.{grantedIn, pendingIn, planFields, planOf, planMessage, badAck, badPlan, refuses, callFault, issueFault, movedTo, issuedFrom, issueOf, issueInto}
 use Rattle.headend.proofs.Scans.{map-listed}
-use Rattle.headend.proofs.Held.{granted-listed, pending-listed, granted-pending, total-granted, length-granted}
+use Rattle.headend.proofs.Held.{granted-listed, pending-listed, total-granted, length-granted}
 use Rattle.headend.proofs.Plans.{held-is}
 use Rattle.headend.proofs.Planned.{plan-size, plan-length}
-use Rattle.headend.proofs.Checks.{handed-on, Valid, record-valid}
+use Rattle.headend.proofs.Checks.{handed-on, record-valid}
 
-pub ack-compared : (h : Headend) (ack a b : ℕ) → a ≡ ahead 32 (h .ack .0) (h .next .0) → b ≡ ahead 32 (h .ack .0) ack → ltb a b ≡ badAck h ack
-ack-compared h ack a b p q = rw (p, q) refl
+pub ack-compared : (old next new a b : ℕ) → a ≡ ahead 32 old next → b ≡ ahead 32 old new → ltb a b ≡ ltb (ahead 32 old next) (ahead 32 old new)
+ack-compared old next new a b p q = rw (p, q) refl
 
 module _ (h : Headend) (ack c budget room : ℕ) (k : ℕ) (is : k ≡ recordFault h) where
   pub call-record : (k ≡ 0 → ⊥) → k ≡ callFault h ack c budget room

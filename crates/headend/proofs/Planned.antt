@@ -1,16 +1,16 @@
 -- What the elements of a plan say: lengths, intervals, grants and pendings.
-use mathlib.Core.Path.{_≡_, refl, sym, _∙_, ap}
+use mathlib.Core.Path.{_≡_, refl, _∙_, ap}
 use mathlib.Core.Bool.{Bool, true, false, cond, _&&_}
 use mathlib.Core.List.{List, [], _∷_, _++_, append-nil}
-use Prim.Native.Nat.{ℕ, zero, suc, _+_, _-_, _≤_, _<_}
+use Prim.Native.Nat.{ℕ, suc, _+_, _-_}
 use native.Mathlib.Omega.{arith}
-use native.Mathlib.Nat.{add-zero, sub-zero}
+use native.Mathlib.Nat.{sub-zero}
 use lib.Dec.{leb, eqb}
 use lib.ListN.{length, length-append}
 use Rattle.message.specs.declared.element.Element.{Element}
 use Rattle.message.specs.Lists.{keep, isEmpty, gather}
 use Rattle.message.specs.Rules.{granting}
-use Rattle.message.specs.Map.{Map, Interval, firstOffset, intervals, mapLength, afterNull, grantsTo, pendingsTo}
+use Rattle.message.specs.Map.{Interval, firstOffset, intervals, mapLength, afterNull, grantsTo, pendingsTo}
 use Rattle.headend.specs.Requests.{Request}
 use Rattle.headend.specs.Plan.{total, useOf, grants, pendings, elementsOf}
 

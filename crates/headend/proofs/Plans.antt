@@ -1,24 +1,24 @@
 -- The plan by number: the ways through its functions, and its elements one after the other.
 use mathlib.Core.Path.{_≡_, refl, sym, _∙_, ap}
-use mathlib.Core.Bool.{Bool, true, false, cond, not, _&&_}
+use mathlib.Core.Bool.{Bool, true, false, cond}
 use mathlib.Core.List.{List, [], _∷_, _++_, append-assoc, append-nil}
-use Prim.Native.Nat.{ℕ, zero, suc, _+_, _-_, min, _≤_, _<_}
+use Prim.Native.Nat.{ℕ, zero, suc, _+_, _-_, _≤_, _<_}
 use native.Mathlib.Omega.{arith}
-use native.Mathlib.Nat.{add-zero, zero-add, sub-zero, add-assoc, min-eq-left}
-use lib.Dec.{leb, ltb, eqb}
-use lib.ListN.{length, take, getD, set, length-set, length-take}
+use native.Mathlib.Nat.{add-zero, zero-add, sub-zero, min-eq-left}
+use lib.Dec.{leb, ltb}
+use lib.ListN.{length, take, getD, set, length-set}
 use lib.Seq.{getD-set-same, getD-set-other, getD-take, length-take-le}
-use borrow.Author.Tests.{lt-ltb, le-ltb, le-leb, lt-leb, eq-eqb, ne-eqb, leb-true, leb-false, ltb-true, ltb-false}
+use borrow.Author.Tests.{lt-ltb, le-ltb, le-leb, lt-leb, eq-eqb, ne-eqb, leb-true, ltb-true, ltb-false}
 use Rattle.message.specs.declared.element.Element.{Element}
 use Rattle.message.specs.declared.fields.Fields.{Fields}
 use Rattle.message.specs.Lists.{listed}
 use Rattle.message.specs.Writing.{given, elementsGiven, laidOut}
 use Rattle.message.proofs.Granting.{listed-more, listed-none}
-use Rattle.message.proofs.Stores.{listed-last, length-listed}
+use Rattle.message.proofs.Stores.{listed-last}
 use Rattle.message.proofs.Ways.{said}
 use Rattle.headend.specs.declared.record.Headend.{Headend}
 use Rattle.headend.specs.Requests.{Request, requestAt, heldOf, firstHeld, afterFirst}
-use Rattle.headend.specs.Plan.{granted, pending, total, useOf, grants, pendings, elementsOf, fitsAt, elementBy, lengthBy}
+use Rattle.headend.specs.Plan.{granted, total, grants, pendings, elementsOf, fitsAt, elementBy, lengthBy}
 
 module _ (sizes : List ℕ) (held i left : ℕ) where
   pub fits-none : held ≤ i → false ≡ fitsAt sizes held i left

@@ -1,39 +1,35 @@
 -- The reader accepts every plan of a valid headend: the headend never refuses its own MAP.
 use mathlib.Core.Path.{_≡_, refl, sym, _∙_, ap}
-use mathlib.Core.Bool.{Bool, true, false, cond, not, _&&_, _||_}
+use mathlib.Core.Bool.{Bool, true, false, cond, not, _&&_}
 use mathlib.Core.List.{List, [], _∷_, _++_}
-use Prim.Native.Nat.{ℕ, zero, suc, _+_, _-_, _*_, _≤_, _<_}
+use Prim.Native.Nat.{ℕ, suc, _+_, _-_, _≤_, _<_}
 use native.Mathlib.Omega.{arith}
-use native.Mathlib.Nat.{add-zero, add-assoc}
+use native.Mathlib.Nat.{add-zero}
 use lib.Dec.{leb, ltb, eqb}
 use lib.ListN.{length}
-use borrow.Author.Tests.{lt-ltb, le-ltb, le-leb, lt-leb, eq-eqb, ne-eqb, not-true, not-false, leb-true, eqb-true}
+use borrow.Author.Tests.{le-ltb, lt-leb, eq-eqb, not-false, leb-true, eqb-true}
 use Rattle.message.specs.declared.element.Element.{Element}
-use Rattle.message.specs.declared.fields.Fields.{Fields}
 use Rattle.message.specs.declared.rules.Progress.{Progress}
-use Rattle.message.specs.declared.rules.Walked.{Walked}
-use Rattle.message.specs.declared.rules.Walked.the-variants.{Whole, Fault}
-use Rattle.message.specs.declared.reading.Verdict.{Verdict}
-use Rattle.message.specs.declared.reading.Verdict.the-variants.{Accepted, Refused}
+use Rattle.message.specs.declared.rules.Walked.the-variants.{Whole}
+use Rattle.message.specs.declared.reading.Verdict.the-variants.{Accepted}
 use Rattle.message.specs.Sids.{within, unicast, sidAllowed}
-use Rattle.message.specs.Fields.{badBackoff, badBackoffs}
+use Rattle.message.specs.Fields.{badBackoffs}
 use Rattle.message.specs.Rules.{granting, misordered, misplaced, faultOf, nothingYet, advanced, endedAt, walked}
-use Rattle.message.specs.Map.{Map, mapLength}
+use Rattle.message.specs.Map.{mapLength}
 use Rattle.message.specs.Reading.{mapOf, readOf}
-use Rattle.message.specs.Writing.{messageOf}
 use Rattle.message.proofs.Ways.{fault-none, or-none}
 use Rattle.message.proofs.Stores.{length-listed}
 use Rattle.message.proofs.Trips.{Fits, whole-narrow, map-back, fields-back, reads-back}
 use Rattle.headend.specs.declared.record.Headend.{Headend}
 use Rattle.headend.specs.Requests.{Request, requestAt, heldOf}
 use Rattle.headend.specs.Records.{any, badSize, recordFault}
-use Rattle.headend.specs.Plan.{granted, pending, total, grants, pendings, elementsOf}
-use Rattle.headend.specs.Issue.{grantedIn, pendingIn, planFields, planOf, planMessage, badPlan, refuses, callFault, issueFault}
-use Rattle.headend.proofs.Checks.{Valid, record-valid}
+use Rattle.headend.specs.Plan.{granted, total, grants, pendings, elementsOf}
+use Rattle.headend.specs.Issue.{grantedIn, pendingIn, planOf, planMessage, badPlan, refuses, callFault, issueFault}
+use Rattle.headend.proofs.Checks.{record-valid}
 use Rattle.headend.proofs.Held.{granted-pending, total-granted, length-granted}
 use Rattle.headend.proofs.Plans.{held-is}
 use Rattle.headend.proofs.Planned.{use-not-7, use-grants, null, plan-size, plan-length}
-use Rattle.headend.proofs.Issues.{Called, called, plan-given}
+use Rattle.headend.proofs.Issues.{called, plan-given}
 
 -- an element without a fault is passed
 walk-on : (i : ℕ) (p : Progress) (e : Element) (es : List Element) → 0 ≡ faultOf p e → walked i p (e ∷ es) ≡ walked (i + 1) (advanced p e i) es

@@ -1,18 +1,18 @@
 -- The table of requests held, after a request and after an issue.
 use mathlib.Core.Path.{_≡_, refl, sym, _∙_, ap}
 use mathlib.Core.List.{List, [], _∷_, _++_, map}
-use Prim.Native.Nat.{ℕ, zero, suc, _+_, _-_, min, _≤_, _<_}
+use Prim.Native.Nat.{ℕ, zero, suc, _+_, _-_, _≤_, _<_}
 use native.Mathlib.Omega.{arith}
 use native.Mathlib.Nat.{zero-add, min-eq-left}
 use native.Mathlib.Numerals.{add-one}
-use lib.ListN.{length, getD, set, replicate}
+use lib.ListN.{length, getD}
 use lib.Seq.{getD-set-same, getD-set-other}
 use Rattle.slots.specs.Time.{movedOn}
 use Rattle.message.specs.Lists.{listed}
 use Rattle.message.specs.Map.{mapLength}
 use Rattle.message.proofs.Stores.{listed-last, length-listed}
 use Rattle.headend.specs.declared.record.Headend.{Headend}
-use Rattle.headend.specs.Requests.{Request, requestAt, heldOf, placesOf, sidsOf, sizesOf, firstsOf}
+use Rattle.headend.specs.Requests.{Request, requestAt, heldOf, sidsOf, sizesOf, firstsOf}
 use Rattle.headend.specs.Records.{withPlaces, joined}
 use Rattle.headend.specs.Plan.{granted, pending}
 use Rattle.headend.specs.Issue.{grantedIn, pendingIn, planOf, movedTo, issuedFrom}

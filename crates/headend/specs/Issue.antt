@@ -1,22 +1,19 @@
 -- Document 01, "The headend" and "Refusal numbers": issuing.
 use Prim.Native.Nat.{ℕ, _+_, _-_, _*_}
 use mathlib.Core.Bool.{Bool, true, false, cond, not, _||_}
-use mathlib.Core.List.{List, [], _∷_}
-use lib.Dec.{leb, ltb, eqb}
+use mathlib.Core.List.{List}
+use lib.Dec.{ltb, eqb}
 use lib.ListN.{length}
-use Rattle.slots.specs.declared.time.MiniSlot.{MiniSlot}
 use Rattle.slots.specs.Time.{ahead, movedOn}
-use Rattle.message.specs.declared.element.Element.{Element}
 use Rattle.message.specs.declared.fields.Fields.{Fields}
 use Rattle.message.specs.declared.reading.Verdict.{Verdict}
 use Rattle.message.specs.declared.reading.Verdict.the-variants as verdict
-use Rattle.message.specs.Refusals.{Name, Room, Ack, Plan, Selfcheck, numberOf, refusal}
+use Rattle.message.specs.Refusals.{Room, Ack, Plan, Selfcheck, numberOf, refusal}
 use Rattle.message.specs.Map.{Map, mapLength}
 use Rattle.message.specs.Reading.{readOf}
 use Rattle.message.specs.Writing.{messageOf, onto}
 use Rattle.headend.specs.declared.record.Headend.{Headend}
 use Rattle.headend.specs.declared.record.Issuing.{Issuing}
-use Rattle.headend.specs.declared.record.Issued.{Issued}
 use Rattle.headend.specs.declared.record.Issued.the-variants as issued
 use Rattle.headend.specs.Requests.{Request, heldOf, placesOf, sidsOf, sizesOf, firstsOf}
 use Rattle.headend.specs.Records.{withPlaces, recordFault}

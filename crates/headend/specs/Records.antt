@@ -1,6 +1,6 @@
 -- Document 01, "The headend" and "Refusal numbers": set-up, the record handed in, and requests.
 use Prim.Native.Nat.{ℕ, _+_}
-use mathlib.Core.Bool.{Bool, true, false, cond, not, _||_}
+use mathlib.Core.Bool.{Bool, false, cond, not, _||_}
 use mathlib.Core.List.{List, [], _∷_}
 use lib.Dec.{leb, ltb, eqb}
 use lib.ListN.{set, replicate}
@@ -11,7 +11,7 @@ use Rattle.message.specs.declared.refusal.Refusal.{Refusal}
 use Rattle.message.specs.Fields.{badBackoff}
 use Rattle.message.specs.Sids.{within, unicast}
 use Rattle.message.specs.Refusals as refusals
-use Rattle.message.specs.Refusals.{Name, Sid, Size, Passed, Unannounced, Held, Full, numberOf, refusal}
+use Rattle.message.specs.Refusals.{Sid, Size, Passed, Unannounced, Held, Full, numberOf, refusal}
 use Rattle.headend.specs.declared.record.Headend.{Headend}
 use Rattle.headend.specs.declared.record.SetUp.{SetUp}
 use Rattle.headend.specs.declared.record.Taking.{Taking}

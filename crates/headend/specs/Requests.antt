@@ -1,6 +1,6 @@
 -- Document 01, "The headend": the requests held, in the order taken.
 use Prim.Native.Nat.{ℕ, _-_, min}
-use mathlib.Core.List.{List, [], _∷_, _++_, map}
+use mathlib.Core.List.{List, _++_, map}
 use lib.ListN.{length, getD, replicate}
 use Rattle.message.specs.Lists.{listed}
 use Rattle.headend.specs.declared.record.Headend.{Headend}

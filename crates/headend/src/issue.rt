@@ -1,11 +1,13 @@
 // A MAP issued.
 ghost use mathlib.Core.Path.{_≡_};
 ghost use Prim.Native.Nat.{_+_, _-_, _≤_};
+ghost use lib.Dec.{ltb};
 ghost use lib.ListN.{length, getD};
+ghost use Rattle.slots.specs.Time.{ahead};
 ghost use Rattle.message.specs.Lists.{listed};
 ghost use Rattle.message.specs.Reading.{readOf};
 ghost use Rattle.headend.specs.Requests.{placesOf, afterFirst};
-ghost use Rattle.headend.specs.Issue.{badAck, badPlan, refuses, callFault, movedTo, issueOf, issueInto};
+ghost use Rattle.headend.specs.Issue.{badPlan, refuses, callFault, movedTo, issueOf, issueInto};
 use crate::plan::grants_within;
 use crate::plan::make;
 use crate::record::Headend;
@@ -19,12 +21,10 @@ use message::read;
 use slots::MiniSlot;
 
 // New - old exceeds next start - old: plain forward distances, so that old and next start both pass.
-fn bad_ack(h: Headend, ack: MiniSlot) -> bool
-    ensures { λ r. ⌜ r ≡ badAck h (ack .0) ⌝ }
+fn bad_ack(old: MiniSlot, next: MiniSlot, new: MiniSlot) -> bool
+    ensures { λ r. ⌜ r ≡ ltb (ahead 32 (old .0) (next .0)) (ahead 32 (old .0) (new .0)) ⌝ }
 {
-    let old = h.ack;
-    let next = h.next;
-    old.ahead(next) < old.ahead(ack)
+    old.ahead(next) < old.ahead(new)
 }
 
 fn bad_plan(c: u32, budget: u32) -> bool
@@ -37,11 +37,13 @@ fn bad_plan(c: u32, budget: u32) -> bool
 fn call_fault(h: Headend, ack: MiniSlot, c: u32, budget: u32, room: usize) -> u32
     ensures { λ r. ⌜ r ≡ callFault h (ack .0) c budget room ⌝ }
 {
+    let old = h.ack;
+    let next = h.next;
     let number = record_fault(h);
     if number != 0 {
         return number;
     }
-    if bad_ack(h, ack) {
+    if bad_ack(old, next, ack) {
         return Refusal::ACK;
     }
     if bad_plan(c, budget) {

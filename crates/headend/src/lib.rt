@@ -1,9 +1,9 @@
 // A small headend: it holds requests and issues MAPs.
-pub mod issue;
-pub mod plan;
+mod issue;
+mod plan;
 pub mod record;
-pub mod request;
-pub mod setup;
+mod request;
+mod setup;
 
 pub use record::Headend;
 pub use record::Issued;

@@ -15,7 +15,7 @@ use message::lay_out;
 use slots::MiniSlot;
 
 // How many of the held requests are granted, and their mini-slots together.
-pub struct Grants {
+pub(crate) struct Grants {
     pub count: u32,
     pub total: u32,
 }

@@ -1,6 +1,6 @@
 -- The scan for the k-th grant.
-use mathlib.Core.Path.{_≡_, refl, sym, _∙_, ap}
-use mathlib.Core.Bool.{Bool, true, false, cond, not, _&&_}
+use mathlib.Core.Path.{_≡_, refl, sym, _∙_}
+use mathlib.Core.Bool.{Bool, true, false, cond}
 use mathlib.Core.Logic.{_⊎_, inl, inr}
 use mathlib.Core.List.{List, [], _∷_}
 use Prim.Native.Nat.{ℕ, zero, suc, _+_, _-_, _*_, _≤_, _<_}
@@ -8,7 +8,7 @@ use native.Mathlib.Omega.{arith}
 use native.Mathlib.Nat.{sub-zero}
 use lib.Dec.{eqb}
 use lib.ListN.{length}
-use borrow.Author.Tests.{lt-leb, eq-eqb, ne-eqb, eqb-true}
+use borrow.Author.Tests.{lt-leb, ne-eqb, eqb-true}
 use Rattle.slots.proofs.Rolling.{order}
 use Rattle.message.specs.declared.element.Element.{Element}
 use Rattle.message.specs.declared.grants.Found.{Found}
@@ -25,7 +25,7 @@ use Rattle.message.specs.Reading.{readOf}
 use Rattle.message.specs.Element.{elementAt}
 use Rattle.message.specs.Map.{Interval, firstOffset, intervals, grantsTo}
 use Rattle.message.specs.Lists.{listed}
-use Rattle.message.proofs.Accepted.{Accept, accepted}
+use Rattle.message.proofs.Accepted.{accepted}
 use Rattle.message.specs.Grants.{grantsSid, hits, passedBy, kthOf, kthGrant, grantedAt, grantOf}
 
 pub past-end : (s : List ℕ) (n : ℕ) → length s ≤ 16 + 4 * n → elementAt s n .offset ≡ 0

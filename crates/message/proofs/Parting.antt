@@ -1,7 +1,7 @@
 -- The part after the Null: its bytes, and that they are the elements after the Null.
-use mathlib.Core.Path.{_≡_, refl, sym, _∙_, ap}
-use mathlib.Core.List.{List, [], _∷_}
-use Prim.Native.Nat.{ℕ, _+_, _-_, _*_, _≤_, _<_}
+use mathlib.Core.Path.{_≡_, _∙_}
+use mathlib.Core.List.{List, []}
+use Prim.Native.Nat.{ℕ, _+_, _-_, _*_, _≤_}
 use native.Mathlib.Omega.{arith}
 use lib.ListN.{length, take, drop, length-drop, drop-of-length-le}
 use lib.Seq.{take-all, drop-length}
@@ -14,7 +14,7 @@ use Rattle.message.specs.Lists.{listed}
 use Rattle.message.specs.Map.{afterNull}
 use Rattle.message.specs.Reading.{mapOf, readOf}
 use Rattle.message.specs.After.{afterNullOf}
-use Rattle.message.proofs.Accepted.{Accept, accepted, after-null}
+use Rattle.message.proofs.Accepted.{accepted, after-null}
 
 module _ (s : List ℕ) (at : ℕ) where
   pub part-none : length s ≤ at → take (length s - length s) (drop (length s) s) ≡ drop at s

@@ -4,17 +4,16 @@ use mathlib.Core.List.{List, [], _∷_, _++_, append-assoc, append-nil}
 use Prim.Native.Nat.{ℕ, zero, suc, _+_, _-_, _*_, _≤_, _<_}
 use native.Mathlib.Omega.{arith}
 use native.Mathlib.Nat.{add-zero, zero-add}
-use native.Mathlib.Numerals.{add-one}
-use lib.ListN.{length, take, drop, set, length-set, length-append, take-append-drop, length-drop}
-use lib.Seq.{sets, sets-eq, take-at, drop-at, drop-drop, length-take-le, take-length}
+use lib.ListN.{length, take, drop, set, length-append, take-append-drop, length-drop}
+use lib.Seq.{sets-eq, take-at, drop-at, drop-drop, length-take-le, take-length}
 use Rattle.message.proofs.Ways.{said, said-not}
 use Rattle.message.specs.declared.element.Element.{Element}
 use Rattle.message.specs.Lists.{listed}
 use Rattle.message.specs.Writing.{bytesOf, wordOf, headerOf, elementsOf, messageOf, laidOut, onto, roomFor, writtenBy, writtenOf, writeInto}
 use Rattle.message.specs.declared.fields.Fields.{Fields}
 use borrow.Author.Tests.{le-leb, lt-leb, lt-ltb, le-ltb, eq-eqb, ne-eqb, ltb-false, eqb-false}
-use mathlib.Core.Bool.{Bool, true, false, cond, _||_}
-use lib.Dec.{leb, ltb, eqb}
+use mathlib.Core.Bool.{Bool, true, false, cond}
+use lib.Dec.{ltb, eqb}
 use Rattle.message.specs.declared.refusal.Refusal.{Refusal}
 use Rattle.message.specs.declared.rules.Walked.{Walked}
 use Rattle.message.specs.declared.rules.Walked.the-variants.{Whole, Fault}

@@ -1,31 +1,28 @@
 -- The round trip: reading what was written, and writing what was read.
 use mathlib.Core.Path.{_≡_, refl, sym, _∙_, ap}
-use mathlib.Core.Bool.{Bool, true, false, cond, not, _&&_, _||_}
+use mathlib.Core.Bool.{Bool, true, false, cond, _&&_, _||_}
 use mathlib.Core.List.{List, [], _∷_, _++_, append-assoc}
-use Prim.Native.Nat.{ℕ, zero, suc, _+_, _-_, _*_, _/_, _%_, _^_, _≤_, _<_}
+use Prim.Native.Nat.{ℕ, zero, suc, _+_, _-_, _*_, _/_, _%_, _≤_, _<_}
 use native.Mathlib.Omega.{arith}
 use native.Mathlib.Nat.{div-add-mod', mod-eq-of-lt}
 use lib.Pow.{shr-shr, shr-lt}
-use lib.Dec.{leb, ltb, eqb}
+use lib.Dec.{leb, eqb}
 use borrow.Author.Tests.{leb-true, eqb-true, ltb-false, not-false}
-use mathlib.Core.Logic.{_⊎_, inl, inr}
 use lib.ListN.{length, getD, take, drop, set, length-append, length-drop, take-append-drop}
 use lib.Seq.{getD-append-add, drop-cons, take-add, drop-drop, take-all, set-append-left, set-getD, getD-set-same, length-take-le, take-at}
 use Rattle.message.specs.declared.element.Element.{Element}
 use Rattle.message.specs.declared.fields.Fields.{Fields}
 use Rattle.message.specs.declared.rules.Progress.{Progress}
-use Rattle.message.specs.declared.rules.Walked.{Walked}
-use Rattle.message.specs.declared.rules.Walked.the-variants.{Whole, Fault}
-use Rattle.message.specs.Rules.{granting, misplaced, tooFar, walked, advanced, nothingYet}
+use Rattle.message.specs.declared.rules.Walked.the-variants.{Whole}
+use Rattle.message.specs.Rules.{granting, misplaced, walked, advanced, nothingYet}
 use Rattle.message.specs.declared.reading.Reading.{Reading}
-use Rattle.message.specs.declared.reading.Verdict.{Verdict}
-use Rattle.message.specs.declared.reading.Verdict.the-variants.{Accepted, Refused}
+use Rattle.message.specs.declared.reading.Verdict.the-variants.{Accepted}
 use Rattle.message.specs.Reading.{headerFault, mapOf, readOf}
 use Rattle.message.proofs.Ways.{header-good}
 use Rattle.message.proofs.Stores.{length-header, length-message, length-listed, Writes, writes}
-use Rattle.message.proofs.Accepted.{Passes, whole-step, Accept, accepted}
+use Rattle.message.proofs.Accepted.{Passes, whole-step, accepted}
 use Rattle.message.specs.Sids.{within, sidAllowed}
-use Rattle.message.specs.Fields.{fieldsOf, countOf, reservedOf, badBackoffs}
+use Rattle.message.specs.Fields.{fieldsOf, countOf, badBackoffs}
 use contract.Lifetimes
 use borrow.Fn.World
 use borrow.Fn.Kinds as Kinds'
@@ -39,7 +36,6 @@ use Rattle.message.proofs.writing.write.Reads as write
 use Rattle.message.proofs.writing.write.Kinds as write-kinds
 use Rattle.message.specs.declared.writing.Written.{Written}
 use Rattle.message.specs.declared.writing.Written.the-variants.{Size}
-use Rattle.message.specs.Map.{Map}
 use Rattle.message.specs.Lists.{listed}
 use Rattle.message.specs.Element.{wordAt, elementOf, elementIn}
 use Rattle.message.specs.Writing.{bytesOf, wordOf, headerOf, elementsOf, messageOf, elementsGiven, writtenOf, writeInto}

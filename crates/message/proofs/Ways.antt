@@ -1,8 +1,8 @@
 -- The ways through the reader's functions: one law each, about the definitions only.
-use mathlib.Core.Path.{_≡_, refl, sym, _∙_, ap}
+use mathlib.Core.Path.{_≡_, refl, sym, _∙_}
 use mathlib.Core.Bool.{Bool, true, false, cond, not, _&&_, _||_}
 use mathlib.Core.List.{List}
-use Prim.Native.Nat.{ℕ, zero, suc, _+_, _-_, _*_, _/_, _%_, _^_, _≤_, _<_}
+use Prim.Native.Nat.{ℕ, zero, suc, _+_, _-_, _*_, _/_, _≤_, _<_}
 use native.Mathlib.Omega.{arith}
 use lib.Dec.{leb, ltb, eqb}
 use lib.ListN.{length, getD}
@@ -14,15 +14,15 @@ use Rattle.message.specs.declared.fields.Fields.{Fields}
 use Rattle.message.specs.declared.rules.Progress.{Progress}
 use Rattle.message.specs.declared.rules.Walked.{Walked}
 use Rattle.message.specs.declared.rules.Walked.the-variants.{Whole, Fault}
-use Rattle.message.specs.Sids.{within, unicast, sidAllowed}
-use Rattle.message.specs.Element.{wordAt, elementIn, elementAt}
+use Rattle.message.specs.Sids.{within, sidAllowed}
+use Rattle.message.specs.Element.{elementIn, elementAt}
 use Rattle.message.specs.Fields.{fieldsOf, countOf, badBackoffs}
 use Rattle.message.specs.Refusals.{refusal}
 use Rattle.message.specs.Rules.{granting, unknownUse, misordered, wrongSid, misplaced, tooFar, grantTooLong, faultOf, nothingYet, advanced, endedAt, walked}
 use Rattle.message.specs.Lists.{listed}
-use Rattle.message.specs.Reading.{headerFault, verdictOf, mapOf, readOf}
+use Rattle.message.specs.Reading.{headerFault, verdictOf, readOf}
 use Rattle.message.specs.declared.reading.Verdict.{Verdict}
-use Rattle.message.specs.declared.reading.Verdict.the-variants.{Accepted, Refused}
+use Rattle.message.specs.declared.reading.Verdict.the-variants.{Refused}
 
 module _ (sid : ℕ) where
   pub sid-1 : (iuc : ℕ) (a b : Bool) → iuc ≡ 1 → a ≡ within 0x0001 0x3DFF sid → b ≡ within 0x3E01 0x3EFF sid → (a || b || eqb sid 0x3FFF) ≡ sidAllowed iuc sid

@@ -1,10 +1,9 @@
 -- Document 01, "The message": the header.
-use Prim.Native.Nat.{ℕ, _+_, _*_, _^_}
+use Prim.Native.Nat.{ℕ}
 use mathlib.Core.Bool.{Bool, _||_}
 use mathlib.Core.List.{List}
 use lib.Dec.{ltb}
 use lib.ListN.{getD}
-use Rattle.slots.specs.declared.time.MiniSlot.{MiniSlot}
 use Rattle.message.specs.declared.fields.Backoff.{Backoff}
 use Rattle.message.specs.declared.fields.Fields.{Fields}
 use Rattle.message.specs.Element.{wordAt}

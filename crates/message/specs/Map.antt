@@ -1,8 +1,8 @@
 -- Document 01, "The message": a MAP with its list of elements, and what the elements say.
 use Prim.Native.Nat.{ℕ, _-_}
-use mathlib.Core.Bool.{Bool, true, false, cond, _&&_}
+use mathlib.Core.Bool.{cond, _&&_}
 use mathlib.Core.List.{List, [], _∷_}
-use lib.Dec.{leb, ltb, eqb}
+use lib.Dec.{eqb}
 use Rattle.slots.specs.Time.{movedOn}
 use Rattle.message.specs.declared.element.Element.{Element}
 use Rattle.message.specs.declared.fields.Fields.{Fields}

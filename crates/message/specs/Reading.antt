@@ -1,17 +1,15 @@
 -- Document 01, "The message" and "Refusal numbers": reading.
 use Prim.Native.Nat.{ℕ, _+_, _*_}
-use mathlib.Core.Bool.{Bool, true, false, cond, not, _||_}
-use mathlib.Core.List.{List, [], _∷_}
-use lib.Dec.{leb, ltb, eqb}
+use mathlib.Core.Bool.{cond, not, _||_}
+use mathlib.Core.List.{List}
+use lib.Dec.{ltb, eqb}
 use lib.ListN.{length}
-use Rattle.message.specs.declared.refusal.Refusal.{Refusal}
 use Rattle.message.specs.declared.fields.Fields.{Fields}
 use Rattle.message.specs.declared.rules.Walked.{Walked}
 use Rattle.message.specs.declared.rules.Walked.the-variants.{Whole, Fault}
-use Rattle.message.specs.declared.reading.Reading.{Reading}
 use Rattle.message.specs.declared.reading.Verdict.{Verdict}
 use Rattle.message.specs.declared.reading.Verdict.the-variants.{Accepted, Refused}
-use Rattle.message.specs.Refusals.{Name, Short, Count, Length, Backoff, numberOf, refusal}
+use Rattle.message.specs.Refusals.{Short, Count, Length, Backoff, numberOf, refusal}
 use Rattle.message.specs.Element.{elementIn}
 use Rattle.message.specs.Fields.{fieldsOf, countOf, badBackoffs}
 use Rattle.message.specs.Rules.{walked, nothingYet}

@@ -8,7 +8,7 @@ use Rattle.message.specs.declared.rules.Progress.{Progress}
 use Rattle.message.specs.declared.rules.Walked.{Walked}
 use Rattle.message.specs.declared.rules.Walked.the-variants.{Whole, Fault}
 use Rattle.message.specs.Sids.{within, sidAllowed}
-use Rattle.message.specs.Refusals.{Name, Use, Null, Sid, Place, Span, Grant, numberOf, refusal}
+use Rattle.message.specs.Refusals.{Use, Null, Sid, Place, Span, Grant, numberOf, refusal}
 
 -- "A grant (use 5 or 6)"
 abbrev pub granting : ℕ → Bool

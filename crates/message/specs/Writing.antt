@@ -1,17 +1,16 @@
 -- Document 01, "The message" and "Refusal numbers": writing.
 use Prim.Native.Nat.{ℕ, _+_, _*_, _/_, _%_, _^_}
-use mathlib.Core.Bool.{Bool, cond, _||_}
+use mathlib.Core.Bool.{cond, _||_}
 use mathlib.Core.List.{List, [], _∷_, _++_}
 use lib.Dec.{leb, ltb, eqb}
 use lib.ListN.{length, drop, getD}
 use Rattle.message.specs.declared.element.Element.{Element}
 use Rattle.message.specs.declared.fields.Fields.{Fields}
-use Rattle.message.specs.declared.refusal.Refusal.{Refusal}
 use Rattle.message.specs.declared.rules.Walked.{Walked}
 use Rattle.message.specs.declared.rules.Walked.the-variants.{Whole, Fault}
 use Rattle.message.specs.declared.writing.Written.{Written}
 use Rattle.message.specs.declared.writing.Written.the-variants.{Size, Refused}
-use Rattle.message.specs.Refusals.{Name, Count, Backoff, Room, numberOf, refusal}
+use Rattle.message.specs.Refusals.{Count, Backoff, Room, numberOf, refusal}
 use Rattle.message.specs.Fields.{badBackoffs}
 use Rattle.message.specs.Rules.{walked, nothingYet}
 use Rattle.message.specs.Lists.{listed}

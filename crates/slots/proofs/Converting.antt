@@ -1,13 +1,12 @@
 -- The conversion: a mini-slot of at most 2^7 ticks, 64 counts each, and its count fits 64 bits.
-use mathlib.Core.Path.{_≡_, refl, sym, _∙_, ap}
+use mathlib.Core.Path.{_≡_, refl}
 use mathlib.Core.Bool.{Bool, true, false, cond, _&&_}
-use Prim.Native.Nat.{ℕ, _+_, _*_, _%_, _^_, _≤_, _<_}
-use native.Mathlib.Nat.{mod-eq-of-lt, mul-assoc, mul-le-mul-left, le-trans, one-mul}
+use Prim.Native.Nat.{ℕ, _*_, _%_, _^_, _≤_, _<_}
+use native.Mathlib.Nat.{mod-eq-of-lt, mul-assoc, mul-le-mul-left, one-mul}
 use native.Mathlib.Omega.{arith}
 use lib.Pow.{pow-mono}
 use lib.Dec.{leb}
 use borrow.Author.Tests.{le-leb, lt-leb}
-use Rattle.slots.specs.declared.time.Begins.{Begins}
 use Rattle.slots.specs.declared.time.Begins.the-variants.{At, Size}
 use Rattle.slots.specs.Begins.{beginsAt}
 

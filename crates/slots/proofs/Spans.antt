@@ -1,16 +1,14 @@
 -- The ways through the span's functions: one law each.
-use mathlib.Core.Path.{_≡_, refl, sym, _∙_, ap}
-use mathlib.Core.Bool.{Bool, true, false, cond, not, _&&_}
-use Prim.Native.Nat.{ℕ, _+_, _%_, _^_, _≤_, _<_}
+use mathlib.Core.Path.{_≡_, refl, sym, _∙_}
+use mathlib.Core.Bool.{Bool, true, false, not}
+use Prim.Native.Nat.{ℕ, _^_, _≤_, _<_}
 use native.Mathlib.Nat.{mod-eq-of-lt}
-use lib.Dec.{leb, ltb}
 use borrow.Author.Tests.{lt-ltb, le-ltb, le-leb, lt-leb, not-true}
 use Rattle.slots.specs.declared.time.MiniSlot.{MiniSlot}
 use Rattle.slots.specs.declared.span.Span.{Span}
 use Rattle.slots.specs.declared.span.Span.the-variants.{Nothing, Lost, Over}
-use Rattle.slots.specs.declared.span.Added.{Added}
 use Rattle.slots.specs.Time.{ahead, movedOn}
-use Rattle.slots.specs.Span.{within, both, further, widened, over, added, addedTo}
+use Rattle.slots.specs.Span.{both, further, widened, added, addedTo}
 
 -- what a call answered, and what the branch showed of the answer
 pub said : {r t b : Bool} → r ≡ t → r ≡ b → t ≡ b

@@ -1,8 +1,8 @@
 -- Document 01's numbers of time and span, computed with the definitions that the contracts cite.
 use mathlib.Core.Path.{_≡_, refl}
 use mathlib.Core.Bool.{Bool, true, false, not, _&&_}
-use mathlib.Core.List.{List, [], _∷_}
-use Prim.Native.Nat.{ℕ, _^_}
+use mathlib.Core.List.{[], _∷_}
+use Prim.Native.Nat.{ℕ}
 use Rattle.slots.specs.declared.span.Span.{Span}
 use Rattle.slots.specs.declared.span.Span.the-variants.{Nothing, Lost, Over}
 use Rattle.slots.specs.declared.time.Begins.{Begins}

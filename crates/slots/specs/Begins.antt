@@ -1,6 +1,6 @@
 -- Document 01, "Time": the conversion.
-use Prim.Native.Nat.{ℕ, _+_, _*_, _%_, _^_}
-use mathlib.Core.Bool.{Bool, cond, _&&_}
+use Prim.Native.Nat.{ℕ, _*_, _%_, _^_}
+use mathlib.Core.Bool.{cond, _&&_}
 use lib.Dec.{leb}
 use Rattle.slots.specs.declared.time.Begins.{Begins}
 use Rattle.slots.specs.declared.time.Begins.the-variants.{At, Size}

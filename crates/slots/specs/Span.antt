@@ -1,9 +1,8 @@
 -- Document 01, "Time": the span of some MAPs, given by their starts and lengths. Over a width of w bits.
-use Prim.Native.Nat.{ℕ, _+_, _%_, _^_}
+use Prim.Native.Nat.{ℕ, _%_, _^_}
 use mathlib.Core.Bool.{Bool, true, false, cond, _&&_}
 use mathlib.Core.List.{List, [], _∷_}
 use lib.Dec.{leb, ltb}
-use Rattle.slots.specs.declared.time.MiniSlot.{MiniSlot}
 use Rattle.slots.specs.declared.span.Span.{Span}
 use Rattle.slots.specs.declared.span.Span.the-variants.{Nothing, Lost, Over}
 use Rattle.slots.specs.declared.span.Added.{Added}

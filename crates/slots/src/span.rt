@@ -1,7 +1,6 @@
 // What a set of MAPs spans, kept as MAPs are added one by one: no earlier one is looked at again.
 ghost use mathlib.Core.Path.{_≡_};
 ghost use Rattle.slots.specs.Span.{within, both, further, widened, added, addedTo};
-ghost use Rattle.slots.specs.Time.{movedOn};
 use crate::time::MiniSlot;
 
 // Nothing: no MAP yet. Lost: there are MAPs, and they have no span. Over: E and L.

@@ -1,5 +1,5 @@
-use Prim.Native.Nat.{_-_, _≤_}
-use mathlib.Core.Path.{_≡_, refl, sym, _∙_}
+use Prim.Native.Nat.{_-_}
+use mathlib.Core.Path.{refl}
 use borrow.Author.Needs.{needs}
 use Rattle.message.proofs.Ways.{said}
 use Rattle.headend.proofs.Plans.{Counted, count-begins, count-fits, count-next, count-ends}

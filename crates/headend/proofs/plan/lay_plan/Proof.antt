@@ -1,7 +1,5 @@
 use native.Mathlib.Nat.{sub-zero}
-use Prim.Native.Nat.{_-_, _≤_}
-use mathlib.Core.Path.{_≡_, refl, sym, _∙_}
-use native.Mathlib.Omega.{arith}
+use Prim.Native.Nat.{_-_}
 use borrow.Author.Needs.{needs}
 use Rattle.headend.proofs.Plans.{Filled, fill-begins, fill-fits, fill-next, fill-ends, lays}
 use Rattle.headend.proofs.plan.lay_plan.Statement.{statement}
@@ -17,7 +15,7 @@ add-n : tie.Need-add-n Inv-loop μ-loop
 add-n c = search needs
 
 loop-holds : tie.Need-loop-holds Inv-loop μ-loop
-loop-holds c = fill-begins _ _ _ _ _ _ _ refl (c .before .before .before .before .pre .1 .0) (c .before .before .before .before .pre .0) refl refl refl (c .before .before .before .before .pre .1 .1)
+loop-holds c = search fill-begins
 
 element-by-requires : tie.Need-element-by-requires Inv-loop μ-loop
 element-by-requires c κs = let i = c .before .before .before .loop .inv in (search needs, search needs)

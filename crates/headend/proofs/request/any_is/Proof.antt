@@ -1,10 +1,8 @@
 use borrow.Author.Needs.{needs}
 use Prim.Native.Nat.{_-_, _≤_}
-use mathlib.Core.Path.{_≡_, sym, _∙_}
-use mathlib.Core.Bool.{not}
+use mathlib.Core.Path.{_≡_}
 use lib.ListN.{getD}
 use lib.Dec.{eqb}
-use Rattle.message.specs.Sids.{within}
 use Rattle.message.specs.Lists.{listed}
 use Rattle.headend.specs.Records.{any}
 use Rattle.headend.proofs.Scans.{any-begins, any-end, any-hit, any-next}

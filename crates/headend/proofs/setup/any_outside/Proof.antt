@@ -1,15 +1,13 @@
 use Rattle.message.proofs.Ways.{said}
 use borrow.Author.Needs.{needs}
 use Prim.Native.Nat.{_-_, _≤_}
-use mathlib.Core.Path.{_≡_, sym, _∙_}
+use mathlib.Core.Path.{_≡_}
 use mathlib.Core.Bool.{not}
 use lib.ListN.{getD}
-use lib.Dec.{eqb}
 use Rattle.message.specs.Sids.{within}
 use Rattle.message.specs.Lists.{listed}
 use Rattle.headend.specs.Records.{any}
 use Rattle.headend.proofs.Scans.{any-begins, any-end, any-hit, any-next}
-use borrow.Author.Tests.{eq-eqb, ne-eqb}
 use Rattle.headend.proofs.setup.any_outside.Statement.{statement}
 use Rattle.headend.proofs.setup.any_outside.Tie as tie
 

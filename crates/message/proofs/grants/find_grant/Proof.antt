@@ -1,12 +1,11 @@
 use borrow.Author.Needs.{needs}
-use lib.ListN.{length}
 use Rattle.message.specs.Grants.{kthGrant}
 use Rattle.message.specs.Lists.{listed}
 use Rattle.message.specs.Element.{elementAt}
-use Prim.Native.Nat.{_-_, _≤_, _+_, _*_}
+use Prim.Native.Nat.{_-_, _≤_}
 use mathlib.Core.Path.{_≡_, refl}
 use Rattle.message.proofs.Granting.{past-end}
-use Rattle.message.proofs.Granting.{scan-begins, scan-end, scan-null, scan-hit, scan-next, scans}
+use Rattle.message.proofs.Granting.{scan-begins, scan-end, scan-null, scan-next, scans}
 use Rattle.message.proofs.grants.find_grant.Statement.{statement}
 use Rattle.message.proofs.grants.find_grant.Tie as tie
 

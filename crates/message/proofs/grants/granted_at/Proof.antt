@@ -1,5 +1,4 @@
 use Rattle.message.proofs.Granting.{granted-at}
-use Rattle.message.specs.Grants.{grantedAt}
 use borrow.Author.Needs.{needs}
 use Rattle.message.proofs.grants.granted_at.Statement.{statement}
 use Rattle.message.proofs.grants.granted_at.Tie as tie

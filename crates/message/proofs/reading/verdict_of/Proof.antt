@@ -1,4 +1,3 @@
-use Rattle.message.specs.Reading.{verdictOf}
 use borrow.Author.Needs.{needs}
 use Rattle.message.proofs.reading.verdict_of.Statement.{statement}
 use Rattle.message.proofs.reading.verdict_of.Tie as tie

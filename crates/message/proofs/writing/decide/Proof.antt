@@ -1,6 +1,5 @@
 use Rattle.message.proofs.Stores.{length-listed, write-none, write-many, write-backoff, write-walked}
 use mathlib.Core.Path.{sym, _∙_}
-use native.Mathlib.Omega.{arith}
 use Rattle.message.specs.Writing.{given, elementsGiven}
 use lib.ListN.{length}
 use borrow.Author.Needs.{needs}

@@ -1,5 +1,5 @@
 use Rattle.message.proofs.Stores.{length-listed, not-laid, laid-out}
-use mathlib.Core.Path.{sym, _∙_}
+use mathlib.Core.Path.{sym}
 use native.Mathlib.Omega.{arith}
 use Rattle.message.specs.Writing.{given, elementsGiven}
 use lib.ListN.{length}

@@ -2,7 +2,6 @@ use mathlib.Core.Path.{_≡_, refl, ap, _∙_}
 use Rattle.message.proofs.Stores.{laid, laid-none, laid-length, laid-more, laid-all}
 use borrow.Author.Needs.{needs}
 use Rattle.message.specs.Writing.{given}
-use native.Mathlib.Omega.{arith}
 use lib.ListN.{length}
 use Prim.Native.Nat.{_-_, _≤_, _+_, _*_}
 use Rattle.message.proofs.writing.put_elements.Statement.{statement}

@@ -1,8 +1,5 @@
 use Rattle.message.proofs.Stores.{write-done, write-refused}
-use mathlib.Core.Path.{sym, _∙_}
-use native.Mathlib.Omega.{arith}
 use Rattle.message.specs.Writing.{given, elementsGiven}
-use lib.ListN.{length}
 use borrow.Author.Needs.{needs}
 use Rattle.message.proofs.writing.write.Statement.{statement}
 use Rattle.message.proofs.writing.write.Tie as tie

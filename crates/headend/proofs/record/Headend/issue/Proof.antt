@@ -69,7 +69,7 @@ add-moved-to : tie.Need-add-moved-to
 add-moved-to c = let k = called _ _ _ _ _ (sym (c .before .before .before .before .before .before .before .before .before .before .before .before .before .before .before .call-fault .ensures) ∙ c .before .before .before .before .before .before .before .before .before .before .before .before .before .before .if1 .left) in let f = total-fits _ _ _ (k .few) _ _ (c .before .before .before .before .before .before .before .before .before .before .before .before .before .grants-within .ensures) (k .within) in search needs
 
 moved-to-requires : tie.Need-moved-to-requires
-moved-to-requires c κs = let k = called _ _ _ _ _ (sym (c .before .before .before .before .before .before .before .before .before .before .before .before .before .before .before .call-fault .ensures) ∙ c .before .before .before .before .before .before .before .before .before .before .before .before .before .before .if1 .left) in (grants-few _ _ _ (k .few) _ _ (c .before .before .before .before .before .before .before .before .before .before .before .before .before .grants-within .ensures), k .few)
+moved-to-requires c κs = let k = called _ _ _ _ _ (sym (c .before .before .before .before .before .before .before .before .before .before .before .before .before .before .before .call-fault .ensures) ∙ c .before .before .before .before .before .before .before .before .before .before .before .before .before .before .if1 .left) in let f = grants-few _ _ _ (k .few) _ _ (c .before .before .before .before .before .before .before .before .before .before .before .before .before .grants-within .ensures) in (omega arith, k .few)
 
 same-length : tie.Need-same-length
 same-length c = search needs

@@ -1,5 +1,5 @@
 use mathlib.Core.Path.{_∙_, sym}
-use Rattle.message.proofs.Ways.{beyond-short, beyond, inside, element-there}
+use Rattle.message.proofs.Ways.{beyond-short, beyond, element-there}
 use borrow.Author.Needs.{needs}
 use Rattle.message.proofs.element.Element.at.Statement.{statement}
 use Rattle.message.proofs.element.Element.at.Tie as tie
