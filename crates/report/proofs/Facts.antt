@@ -1,13 +1,11 @@
 -- Two facts about the definitions: no body is left out, and the order of the MAPs does not change the span's line.
-use mathlib.Core.Path.{_≡_, refl, sym, _∙_, ap}
+use mathlib.Core.Path.{_≡_, refl, sym, ap}
 use mathlib.Core.Bool.{Bool, true, false, cond}
 use mathlib.Core.List.{List, [], _∷_}
-use Prim.Native.Nat.{ℕ, zero, suc, _+_, _*_, _≤_, _<_}
+use Prim.Native.Nat.{ℕ, zero, suc, _≤_}
 use native.Mathlib.Omega.{arith}
 use lib.Dec.{eqb}
 use lib.ListN.{length, drop, length-drop}
-use borrow.Author.Tests.{eqb-false}
-use Rattle.slots.specs.declared.span.Span.{Span}
 use Rattle.slots.specs.Span.{spanOf}
 use Rattle.slots.proofs.Spanning.{Same, span-any-order}
 use Rattle.report.specs.declared.bodies.Body.{Body}

@@ -1,14 +1,13 @@
 -- What is known of the body that stands next: a MAP's row, or the number of a refusal.
 use mathlib.Core.Path.{_≡_, refl, sym, _∙_, ap}
-use mathlib.Core.Bool.{Bool, true, false, cond, not, _&&_, _||_}
+use mathlib.Core.Bool.{Bool, true, false, cond, not, _||_}
 use mathlib.Core.List.{List, [], _∷_}
-use Prim.Native.Nat.{ℕ, zero, suc, _+_, _*_, _^_, _≤_, _<_}
+use Prim.Native.Nat.{ℕ, zero, suc, _+_, _*_, _≤_, _<_}
 use native.Mathlib.Omega.{arith}
-use lib.Dec.{leb, ltb, eqb}
-use lib.ListN.{length, take, getD}
+use lib.Dec.{ltb, eqb}
+use lib.ListN.{length, take}
 use lib.Seq.{getD-take}
 use borrow.Author.Tests.{ltb-false, eqb-false}
-use Rattle.message.specs.declared.refusal.Refusal.{Refusal}
 use Rattle.message.specs.declared.element.Element.{Element}
 use Rattle.message.specs.declared.fields.Fields.{Fields}
 use Rattle.message.specs.declared.rules.Progress.{Progress}
@@ -24,7 +23,7 @@ use Rattle.message.specs.Refusals.{refusal}
 use Rattle.message.specs.Lists.{listed}
 use Rattle.message.specs.Reading.{headerFault, mapOf, verdictOf, readOf}
 use Rattle.message.proofs.Ways.{or-none}
-use Rattle.message.proofs.Accepted.{Accept, accepted, Passes, whole-step}
+use Rattle.message.proofs.Accepted.{Accept, accepted, whole-step}
 use Rattle.report.specs.declared.bodies.Row.{Row}
 use Rattle.report.specs.declared.bodies.Body.{Body}
 use Rattle.report.specs.declared.bodies.Body.the-variants.{Map, Bad}

@@ -6,14 +6,14 @@ use mathlib.Core.List.{List, [], _∷_, _++_, append-assoc, append-nil, List·Me
 use Prim.Native.Nat.{ℕ, zero, suc, _+_, _-_, _*_, _≤_, _<_}
 use native.Mathlib.Nat.{sub-zero}
 use native.Mathlib.Omega.{arith}
-use lib.Dec.{leb, ltb, eqb}
+use lib.Dec.{ltb, eqb}
 use lib.ListN.{length, take, drop, length-append, length-drop}
 use lib.Seq.{drop-drop}
 use borrow.Author.Tests.{eq-eqb, ne-eqb, le-leb, lt-ltb, le-ltb}
 use Rattle.slots.specs.declared.span.Span.{Span}
 use Rattle.slots.specs.declared.span.Span.the-variants.{Nothing}
 use Rattle.slots.specs.declared.span.Added.{Added}
-use Rattle.slots.specs.Span.{Described, spanOf, added, addedAll, addedTo}
+use Rattle.slots.specs.Span.{Described, added, addedAll, addedTo}
 use Rattle.slots.proofs.Spanning.{_∈_, Every, running-is-span, fit-4096}
 use Rattle.message.proofs.Parting.{part-rest}
 use Rattle.report.specs.declared.bodies.Row.{Row}
@@ -24,7 +24,7 @@ use Rattle.report.specs.declared.reporting.Reported.{Reported}
 use Rattle.report.specs.declared.reporting.Reported.the-variants.{Length, Refused}
 use Rattle.report.specs.Report.{refusedInput, enough, reportOf, reportedOf, reportInto}
 use Rattle.report.specs.Text.{mapLine, refusedLine, spanLine, linesFrom, textOf, putAt, onto}
-use Rattle.report.proofs.Next.{Good, next-good}
+use Rattle.report.proofs.Next.{next-good}
 use Rattle.report.proofs.Filling.{Filling, fill-begins, fill-room, fill-put, fill-end}
 
 -- what bodies add to the report, the first with number i, after MAPs with span p

@@ -1,15 +1,15 @@
 -- How long the report is at most.
-use mathlib.Core.Path.{_≡_, refl, sym, _∙_, ap}
+use mathlib.Core.Path.{_≡_, refl, _∙_}
 use mathlib.Core.Bool.{Bool, true, false, cond}
 use mathlib.Core.List.{List, [], _∷_, _++_}
-use Prim.Native.Nat.{ℕ, zero, suc, _+_, _-_, _*_, _/_, _%_, _^_, _≤_, _<_, min}
+use Prim.Native.Nat.{ℕ, zero, suc, _+_, _-_, _*_, _/_, _%_, _^_, _≤_, _<_}
+use native.Mathlib.Nat.{min-le-left}
 use native.Mathlib.Omega.{arith}
 use lib.Dec.{ltb, eqb}
 use lib.ListN.{length, drop, getD, length-append, length-drop}
 use lib.Seq.{getD-drop}
 use borrow.Author.Tests.{ltb-false}
 use Rattle.slots.specs.declared.span.Span.{Span}
-use Rattle.slots.specs.declared.span.Span.the-variants.{Nothing, Lost, Over}
 use Rattle.slots.specs.Time.{ahead, movedOn}
 use Rattle.slots.specs.Span.{Described, endOf, qualifies, further, furthest, over, spanFrom, spanOf}
 use Rattle.message.specs.Element.{wordAt}
@@ -21,7 +21,7 @@ use Rattle.report.specs.Decimal.{decimalOf}
 use Rattle.report.specs.Text.{fieldOf, fieldsOf, lineOf, mapLine, refusedLine, spanLine, linesFrom, textOf}
 use Rattle.report.specs.Report.{enough, reportOf, refusedInput}
 use Rattle.report.proofs.Decimals.{decimal-short}
-use Rattle.report.proofs.Next.{at-most, badIn, next-most, Good, next-good}
+use Rattle.report.proofs.Next.{at-most, next-most, Good, next-good}
 
 -- bytes are below 256
 abbrev pub Bytes : List ℕ → Type 0
@@ -139,3 +139,7 @@ report-short s bytes = go (ltb 65536 (length s)) refl
     go : (b : Bool) → ltb 65536 (length s) ≡ b → length (cond b refusedInput (textOf s)) ≤ enough (length s)
     go true e = omega arith
     go false e = text-short s bytes (ltb-false 65536 (length s) e)
+
+-- .. and `Reported::ROOM` for an input of any length
+pub room-for-all : (n : ℕ) → enough n ≤ 95593
+room-for-all n = omega (arith, min-le-left 65536 n)

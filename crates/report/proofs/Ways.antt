@@ -1,8 +1,8 @@
 -- The ways through the reading of one body.
-use mathlib.Core.Path.{_≡_, refl, sym, _∙_}
-use mathlib.Core.Bool.{Bool, true, false, cond, _||_}
-use mathlib.Core.List.{List, [], _∷_}
-use Prim.Native.Nat.{ℕ, zero, suc, _+_, _-_, _*_, _≤_, _<_}
+use mathlib.Core.Path.{_≡_, refl, _∙_}
+use mathlib.Core.Bool.{false}
+use mathlib.Core.List.{List}
+use Prim.Native.Nat.{ℕ, _+_, _-_, _*_, _≤_, _<_}
 use native.Mathlib.Omega.{arith}
 use native.Mathlib.Nat.{sub-zero}
 use lib.Dec.{ltb, eqb}
@@ -12,12 +12,10 @@ use Rattle.message.specs.declared.refusal.Refusal.{Refusal}
 use Rattle.message.specs.declared.reading.Reading.{Reading}
 use Rattle.message.specs.declared.reading.Verdict.{Verdict}
 use Rattle.message.specs.declared.reading.Verdict.the-variants.{Accepted, Refused}
-use Rattle.message.specs.Fields.{countOf}
 use Rattle.message.specs.Reading.{readOf}
-use Rattle.report.specs.declared.bodies.Row.{Row}
 use Rattle.report.specs.declared.bodies.Body.{Body}
 use Rattle.report.specs.declared.bodies.Body.the-variants.{Map, Bad}
-use Rattle.report.specs.Bodies.{sizeOf, bodyBy, nextOf}
+use Rattle.report.specs.Bodies.{bodyBy, nextOf}
 
 module _ (v : Verdict) where
   pub by-accepted : (r : Reading) → v ≡ Accepted r → Map (record { start = r .fields .start; length = r .length; n = r .n }) ≡ bodyBy v

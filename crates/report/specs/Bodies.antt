@@ -1,16 +1,15 @@
 -- Document 01, "The report": "at most 65,536 bytes of MAP bodies back to back".
 use Prim.Native.Nat.{ℕ, zero, suc, _+_, _*_}
-use mathlib.Core.Bool.{Bool, cond, _||_}
+use mathlib.Core.Bool.{cond, _||_}
 use mathlib.Core.List.{List, [], _∷_}
 use lib.Dec.{ltb, eqb}
 use lib.ListN.{length, take, drop}
 use Rattle.slots.specs.Span.{Described}
 use Rattle.message.specs.declared.reading.Verdict.{Verdict}
 use Rattle.message.specs.declared.reading.Verdict.the-variants.{Accepted, Refused}
-use Rattle.message.specs.Refusals.{Name, Short, Count, Length, numberOf}
+use Rattle.message.specs.Refusals.{Short, Count, Length, numberOf}
 use Rattle.message.specs.Fields.{countOf}
 use Rattle.message.specs.Reading.{readOf}
-use Rattle.report.specs.declared.bodies.Row.{Row}
 use Rattle.report.specs.declared.bodies.Body.{Body}
 use Rattle.report.specs.declared.bodies.Body.the-variants.{Map, Bad}
 

@@ -26,6 +26,9 @@ pub enum Reported {
 
 impl Reported {
     pub const LONGEST_INPUT: usize = 65536;
+
+    // Lent bytes that are enough for every input.
+    pub const ROOM: usize = 95593;
 }
 
 // So many lent bytes are always enough for an input of n bytes: 35 for each MAP of 24 bytes or

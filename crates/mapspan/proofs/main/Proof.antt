@@ -4,60 +4,43 @@ use Rattle.report.proofs.Running.{report-inside}
 use borrow.Author.Needs.{needs}
 use Rattle.mapspan.proofs.main.Statement.{statement}
 use Rattle.mapspan.proofs.main.Tie as tie
-use Rattle.mapspan.proofs.main.Reads as reads
-use Rattle.mapspan.proofs.main.Lts as lts
-use Rattle.io.proofs.read_full.Reads as read-full-reads
-use Rattle.io.proofs.write_all.Reads as write-all-reads
-use Rattle.report.proofs.report.Reads as report-reads
 
--- src/main.rt:7:30
 slice-aggregate-read-full : tie.Need-slice-aggregate-read-full
 slice-aggregate-read-full c = search needs
 
--- src/main.rt:7:9
 read-full-requires : tie.Need-read-full-requires
 read-full-requires c κs = search needs
 
--- src/main.rt:9:26
 array-share-prefix-input : tie.Need-array-share-prefix-input
 array-share-prefix-input c = search needs
 
--- src/main.rt:9:26
 slice-aggregate-report : tie.Need-slice-aggregate-report
 slice-aggregate-report c = search needs
 
--- src/main.rt:9:39
 slice-aggregate-report-2 : tie.Need-slice-aggregate-report-2
 slice-aggregate-report-2 c = search needs
 
--- src/main.rt:9:11
 report-requires : tie.Need-report-requires
 report-requires c κs = search needs
 
--- src/main.rt:10:26
 enum-known-length : tie.Need-enum-known-length
 enum-known-length c = search needs
 
--- src/main.rt:11:30
 array-share-prefix-out : tie.Need-array-share-prefix-out
-array-share-prefix-out c = report-inside _ _ _ _ _ (c .before .before .before .before .report .ensures .0) (c .before .length .given .1) (c .before .before .before .before .report .ensures .1)
+array-share-prefix-out c = let p = c .before .before .before .before .report .ensures in report-inside _ _ _ _ _ (p .0) (c .before .length .given .1) (p .1)
 
--- src/main.rt:11:30
 slice-aggregate-write-all : tie.Need-slice-aggregate-write-all
-slice-aggregate-write-all c = sym (length-take-le _ _ (report-inside _ _ _ _ _ (c .before .before .before .before .before .report .ensures .0) (c .before .before .length .given .1) (c .before .before .before .before .before .report .ensures .1)))
+slice-aggregate-write-all c = let p = c .before .before .before .before .before .report .ensures in sym (length-take-le _ _ (report-inside _ _ _ _ _ (p .0) (c .before .before .length .given .1) (p .1)))
 
--- src/main.rt:11:13
 write-all-requires : tie.Need-write-all-requires
 write-all-requires c κs = search needs
 
 enum-told : tie.Need-enum-told
 enum-told c = search needs
 
--- src/main.rt:5:1
 returns : tie.Need-returns
 returns c = search needs
 
--- src/main.rt:5:1
 returns-2 : tie.Need-returns-2
 returns-2 c = search needs
 

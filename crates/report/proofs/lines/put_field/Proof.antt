@@ -22,13 +22,13 @@ part-put-end : tie.Need-part-put-end
 part-put-end c = search needs
 
 put-requires-2 : tie.Need-put-requires-2
-put-requires-2 c κs = field-room (c .before .before .before .before .before .before .before .before .before .before .before .args .out .now) (c .before .before .before .before .before .before .before .before .before .before .before .args .used) (c .before .before .before .before .before .before .before .before .before .before .before .args .n) (c .before .before .before .before .before .before .before .before .before .before .before .pre) _ _ (c .before .before .before .before .before .before .before .before .decimal .ensures .1 .0) (c .before .before .before .before .before .before .before .before .decimal .ensures .1 .1) _ _ (c .before .before .before .before .before .put .ensures .0) (c .before .before .before .before .before .put .ensures .1)
+put-requires-2 c κs = let s = c .before .before .before .before .before .before .before .before .before .before .before in let d = c .before .before .before .before .before .before .before .before .decimal .ensures in let p = c .before .before .before .before .before .put .ensures in field-room (s .args .out .now) (s .args .used) (s .args .n) (s .pre) _ _ (d .1 .0) (d .1 .1) _ _ (p .0) (p .1)
 
 same-length : tie.Need-same-length
 same-length c = search needs
 
 returns : tie.Need-returns
-returns c = field-done (c .before .before .before .before .before .before .before .before .before .before .before .before .before .before .args .out .now) (c .before .before .before .before .before .before .before .before .before .before .before .before .before .before .args .used) (c .before .before .before .before .before .before .before .before .before .before .before .before .before .before .args .n) (c .before .before .before .before .before .before .before .before .before .before .before .before .before .before .pre) _ _ (c .before .before .before .before .before .before .before .before .before .before .before .decimal .ensures .1 .0) (c .before .before .before .before .before .before .before .before .before .before .before .decimal .ensures .1 .1) _ _ (c .before .before .before .before .before .before .before .before .put .ensures .0) (c .before .before .before .before .before .before .before .before .put .ensures .1) _ _ (c .before .before .put2 .ensures .0) (c .before .before .put2 .ensures .1)
+returns c = let s = c .before .before .before .before .before .before .before .before .before .before .before .before .before .before in let d = c .before .before .before .before .before .before .before .before .before .before .before .decimal .ensures in let p = c .before .before .before .before .before .before .before .before .put .ensures in let q = c .before .before .put2 .ensures in field-done (s .args .out .now) (s .args .used) (s .args .n) (s .pre) _ _ (d .1 .0) (d .1 .1) _ _ (p .0) (p .1) _ _ (q .0) (q .1)
 
 pub put-field-spec : {M : Type 1} → statement M
 put-field-spec =

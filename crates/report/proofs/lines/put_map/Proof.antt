@@ -1,7 +1,7 @@
 use Prim.Native.Nat.{ℕ}
 use mathlib.Core.Path.{ap, sym}
-use mathlib.Core.List.{List, [], _∷_}
-use Rattle.report.specs.Text.{lineOf, mapLine}
+use mathlib.Core.List.{[], _∷_}
+use Rattle.report.specs.Text.{lineOf}
 use Rattle.report.proofs.Putting.{same-room, same-done}
 use borrow.Author.Needs.{needs}
 use Rattle.report.proofs.lines.put_map.Statement.{statement}

@@ -1,4 +1,3 @@
-use native.Mathlib.Omega.{arith}
 use lib.ListN.{length}
 use Prim.Native.Nat.{_-_, _≤_}
 use borrow.Author.Needs.{needs}
@@ -34,7 +33,7 @@ enum-known-row : tie.Need-enum-known-row Inv-loop μ-loop
 enum-known-row c = search needs
 
 put-map-requires : tie.Need-put-map-requires Inv-loop μ-loop
-put-map-requires c κs = map-room (c .before .before .before .before .before .before .before .before .before .before .before .args .input .now) (c .before .before .before .before .before .before .before .before .before .before .before .args .out .now) _ _ _ _ _ (c .before .before .before .before .before .before .before .loop .inv .1) (c .before .before .before .before .before .before .loop-test .taken) _ (c .before .before .before .before .next-body .ensures) _ (c .before .before .row .given .1)
+put-map-requires c κs = let s = c .before .before .before .before .before .before .before .before .before .before .before .args in let l = c .before .before .before .before .before .before .before .loop .inv in let b = c .before .before .before .before .next-body .ensures in map-room (s .input .now) (s .out .now) _ _ _ _ _ (l .1) (c .before .before .before .before .before .before .loop-test .taken) _ b _ (c .before .before .row .given .1)
 
 add-row-requires : tie.Need-add-row-requires Inv-loop μ-loop
 add-row-requires c κs = search needs
@@ -58,28 +57,28 @@ loop-less : tie.Need-loop-less Inv-loop μ-loop
 loop-less c = search needs
 
 loop-again : tie.Need-loop-again Inv-loop μ-loop
-loop-again c = (c .before .before .before .before .before .before .before .before .before .before .before .before .loop .inv .0, map-next (c .before .before .before .before .before .before .before .before .before .before .before .before .before .before .before .before .args .input .now) (c .before .before .before .before .before .before .before .before .before .before .before .before .before .before .before .before .args .out .now) _ _ _ _ _ (c .before .before .before .before .before .before .before .before .before .before .before .before .loop .inv .1) (c .before .before .before .before .before .before .before .before .before .before .before .loop-test .taken) _ (c .before .before .before .before .before .before .before .before .before .next-body .ensures) _ (c .before .before .before .before .before .before .before .row .given .1) _ _ (c .before .before .before .before .put-map .ensures .0) (c .before .before .before .before .put-map .ensures .1) _ (c .before .add-row .ensures))
+loop-again c = let s = c .before .before .before .before .before .before .before .before .before .before .before .before .before .before .before .before .args in let l = c .before .before .before .before .before .before .before .before .before .before .before .before .loop .inv in let b = c .before .before .before .before .before .before .before .before .before .next-body .ensures in let p = c .before .before .before .before .put-map .ensures in (l .0, map-next (s .input .now) (s .out .now) _ _ _ _ _ (l .1) (c .before .before .before .before .before .before .before .before .before .before .before .loop-test .taken) _ b _ (c .before .before .before .before .before .before .before .row .given .1) _ _ (p .0) (p .1) _ (c .before .add-row .ensures))
 
 enum-known-why : tie.Need-enum-known-why Inv-loop μ-loop
 enum-known-why c = search needs
 
 put-refused-requires : tie.Need-put-refused-requires Inv-loop μ-loop
-put-refused-requires c κs = bad-room (c .before .before .before .before .before .before .before .before .before .before .before .args .input .now) (c .before .before .before .before .before .before .before .before .before .before .before .args .out .now) _ _ _ _ _ (c .before .before .before .before .before .before .before .loop .inv .1) (c .before .before .before .before .before .before .loop-test .taken) _ (c .before .before .before .before .next-body .ensures) _ (c .before .before .why .given .1)
+put-refused-requires c κs = let s = c .before .before .before .before .before .before .before .before .before .before .before .args in let l = c .before .before .before .before .before .before .before .loop .inv in let b = c .before .before .before .before .next-body .ensures in bad-room (s .input .now) (s .out .now) _ _ _ _ _ (l .1) (c .before .before .before .before .before .before .loop-test .taken) _ b _ (c .before .before .why .given .1)
 
 loop-less-2 : tie.Need-loop-less-2 Inv-loop μ-loop
 loop-less-2 c = search needs
 
 loop-again-2 : tie.Need-loop-again-2 Inv-loop μ-loop
-loop-again-2 c = (c .before .before .before .before .before .before .before .before .before .before .loop .inv .0, bad-next (c .before .before .before .before .before .before .before .before .before .before .before .before .before .before .args .input .now) (c .before .before .before .before .before .before .before .before .before .before .before .before .before .before .args .out .now) _ _ _ _ _ (c .before .before .before .before .before .before .before .before .before .before .loop .inv .1) (c .before .before .before .before .before .before .before .before .before .loop-test .taken) _ (c .before .before .before .before .before .before .before .next-body .ensures) _ (c .before .before .before .before .before .why .given .1) _ _ (c .before .before .put-refused .ensures .0) (c .before .before .put-refused .ensures .1))
+loop-again-2 c = let s = c .before .before .before .before .before .before .before .before .before .before .before .before .before .before .args in let l = c .before .before .before .before .before .before .before .before .before .before .loop .inv in let b = c .before .before .before .before .before .before .before .next-body .ensures in let p = c .before .before .put-refused .ensures in (l .0, bad-next (s .input .now) (s .out .now) _ _ _ _ _ (l .1) (c .before .before .before .before .before .before .before .before .before .loop-test .taken) _ b _ (c .before .before .before .before .before .why .given .1) _ _ (p .0) (p .1))
 
 put-span-requires : tie.Need-put-span-requires Inv-loop μ-loop
-put-span-requires c κs = span-room (c .before .before .before .before .before .before .args .input .now) (c .before .before .before .before .before .before .args .out .now) _ _ _ _ _ (c .before .before .loop .inv .1) (c .before .loop-test .left)
+put-span-requires c κs = let s = c .before .before .before .before .before .before .args in let l = c .before .before .loop .inv in span-room (s .input .now) (s .out .now) _ _ _ _ _ (l .1) (c .before .loop-test .left)
 
 same-length : tie.Need-same-length Inv-loop μ-loop
 same-length c = search needs
 
 returns : tie.Need-returns Inv-loop μ-loop
-returns c = span-done (c .before .before .before .before .before .before .before .before .before .args .input .now) (c .before .before .before .before .before .before .before .before .before .args .out .now) _ _ _ _ _ (c .before .before .before .before .before .loop .inv .1) (c .before .before .before .before .loop-test .left) _ _ (c .before .before .put-span .ensures .0) (c .before .before .put-span .ensures .1)
+returns c = let s = c .before .before .before .before .before .before .before .before .before .args in let l = c .before .before .before .before .before .loop .inv in let p = c .before .before .put-span .ensures in span-done (s .input .now) (s .out .now) _ _ _ _ _ (l .1) (c .before .before .before .before .loop-test .left) _ _ (p .0) (p .1)
 
 pub put-all-spec : {M : Type 1} → statement M
 put-all-spec =

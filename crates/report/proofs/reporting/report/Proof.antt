@@ -9,7 +9,7 @@ enough-requires : tie.Need-enough-requires
 enough-requires c κs = search needs
 
 returns : tie.Need-returns
-returns c = report-small (c .before .before .before .before .args .input .now) (c .before .before .before .before .args .out .now) _ (c .before .enough .ensures) (c .if1 .taken)
+returns c = let s = c .before .before .before .before .args in let e = c .before .enough .ensures in report-small (s .input .now) (s .out .now) _ e (c .if1 .taken)
 
 slice-aggregate-put : tie.Need-slice-aggregate-put
 slice-aggregate-put c = search needs
@@ -21,16 +21,16 @@ same-length : tie.Need-same-length
 same-length c = search needs
 
 returns-2 : tie.Need-returns-2
-returns-2 c = report-long (c .before .before .before .before .before .before .before .before .before .before .args .input .now) (c .before .before .before .before .before .before .before .before .before .before .args .out .now) _ (c .before .before .before .before .before .before .before .enough .ensures) (c .before .before .before .before .before .before .if1 .left) _ _ (c .before .before .before .before .before .if2 .taken) (c .before .before .put .ensures .0) (c .before .before .put .ensures .1)
+returns-2 c = let s = c .before .before .before .before .before .before .before .before .before .before .args in let e = c .before .before .before .before .before .before .before .enough .ensures in let p = c .before .before .put .ensures in report-long (s .input .now) (s .out .now) _ e (c .before .before .before .before .before .before .if1 .left) _ _ (c .before .before .before .before .before .if2 .taken) (p .0) (p .1)
 
 put-all-requires : tie.Need-put-all-requires
-put-all-requires c κs = (c .before .if2 .left, omega (arith, text-short (c .before .before .before .before .before .before .args .input .now) (λ j. omega (arith, c .before .before .before .before .before .shared-slice-known .given j)) (c .before .if2 .left), c .before .before .before .enough .ensures, c .before .before .if1 .left))
+put-all-requires c κs = let s = c .before .before .before .before .before .before .args in let e = c .before .before .before .enough .ensures in let short = c .before .if2 .left in (short, omega (arith, text-short (s .input .now) (λ j. omega (arith, c .before .before .before .before .before .shared-slice-known .given j)) short, e, c .before .before .if1 .left))
 
 same-length-2 : tie.Need-same-length-2
 same-length-2 c = search needs
 
 returns-3 : tie.Need-returns-3
-returns-3 c = report-whole (c .before .before .before .before .before .before .before .before .before .args .input .now) (c .before .before .before .before .before .before .before .before .before .args .out .now) _ (c .before .before .before .before .before .before .enough .ensures) (c .before .before .before .before .before .if1 .left) _ _ (c .before .before .before .before .if2 .left) (c .before .before .put-all .ensures)
+returns-3 c = let s = c .before .before .before .before .before .before .before .before .before .args in let e = c .before .before .before .before .before .before .enough .ensures in report-whole (s .input .now) (s .out .now) _ e (c .before .before .before .before .before .if1 .left) _ _ (c .before .before .before .before .if2 .left) (c .before .before .put-all .ensures)
 
 pub report-spec : {M : Type 1} → statement M
 report-spec =
