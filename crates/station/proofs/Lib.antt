@@ -2,5 +2,7 @@ pub mod Ways
 pub mod Scanning
 pub mod Heard
 pub mod Inside
+pub mod Tabled
+pub mod Forties
 pub mod Unique
 pub mod Worked

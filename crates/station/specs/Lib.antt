@@ -5,3 +5,6 @@ pub mod Scan
 pub mod Steps
 pub mod Hearing
 pub mod Offering
+pub mod InPlace
+pub mod Table
+pub mod Forty

@@ -1,0 +1,4 @@
+pub mod Ways
+pub mod Round
+pub mod Whole
+pub mod Unique

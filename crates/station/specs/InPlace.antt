@@ -1,0 +1,17 @@
+-- Document 01, "The station": "The station record is lent to the hearing step and changed where it stands".
+use Prim.Native.Nat.{ℕ}
+use mathlib.Core.Path.{_≡_}
+use mathlib.Core.List.{List}
+use Rattle.station.specs.declared.record.Station.{Station}
+use Rattle.station.specs.declared.record.Answer.{Answer}
+use Rattle.station.specs.declared.record.Offered.{Offered}
+use Rattle.station.specs.Hearing.{hearOf}
+use Rattle.station.specs.Offering.{offerOf}
+
+-- a MAP heard: the record before and after, and the answer
+abbrev pub HearsInPlace : Station → List ℕ → ℕ → ℕ → Station → Answer → Type 0
+HearsInPlace before bytes present draw after answer = (after ≡ hearOf before bytes present draw .station) × (answer ≡ hearOf before bytes present draw .answer)
+
+-- a packet offered, likewise
+abbrev pub OffersInPlace : Station → ℕ → Station → Offered → Type 0
+OffersInPlace before size after answer = (after ≡ offerOf before size .station) × (answer ≡ offerOf before size .answer)
