@@ -7,34 +7,34 @@ struct element {
     uint32_t sid, use, offset;
 };
 
-static uint32_t word(const uint8_t *b)
+static inline uint32_t word(const uint8_t *b)
 {
     return (uint32_t)b[0] << 24 | (uint32_t)b[1] << 16 | (uint32_t)b[2] << 8 | b[3];
 }
 
-static struct element element(const uint8_t *bytes, uint32_t i)
+static inline struct element element(const uint8_t *bytes, uint32_t i)
 {
     uint32_t w = word(bytes + 16 + 4 * i);
     struct element e = {w >> 18, w >> 14 & 15, w & 0x3FFF};
     return e;
 }
 
-static int within(uint32_t low, uint32_t high, uint32_t x)
+static inline int within(uint32_t low, uint32_t high, uint32_t x)
 {
     return low <= x && x <= high;
 }
 
-static int unicast(uint32_t sid)
+static inline int unicast(uint32_t sid)
 {
     return within(0x0001, 0x1FFF, sid);
 }
 
-static int granting(uint32_t use)
+static inline int granting(uint32_t use)
 {
     return use == 5 || use == 6;
 }
 
-static int sid_allowed(uint32_t use, uint32_t sid)
+static inline int sid_allowed(uint32_t use, uint32_t sid)
 {
     if (use == 1)
         return within(0x0001, 0x3DFF, sid) || within(0x3E01, 0x3EFF, sid) || sid == 0x3FFF;
@@ -47,18 +47,18 @@ static int sid_allowed(uint32_t use, uint32_t sid)
     return unicast(sid);
 }
 
-static int bad_backoff(uint8_t start, uint8_t end)
+static inline int bad_backoff(uint8_t start, uint8_t end)
 {
     return start > 15 || end > 15 || start > end;
 }
 
-static uint32_t refusal(uint32_t number, uint32_t place)
+static inline uint32_t refusal(uint32_t number, uint32_t place)
 {
     return number | place << 8;
 }
 
 /* What is wrong with an element: i from 0, the one before it, and the map length once the Null has closed it. */
-static uint32_t fault(struct element e, uint32_t i, struct element before, int closed, uint32_t length)
+static inline uint32_t fault(struct element e, uint32_t i, struct element before, int closed, uint32_t length)
 {
     if (!within(1, 8, e.use))
         return WICKBADGER_USE;
@@ -115,12 +115,12 @@ uint32_t plain_read(const uint8_t *bytes, size_t length, uint32_t fields[11])
     return 0;
 }
 
-static int bad_size(uint32_t size)
+static inline int bad_size(uint32_t size)
 {
     return !within(1, 255, size);
 }
 
-static uint32_t record_fault(const uint32_t s[12])
+static inline uint32_t record_fault(const uint32_t s[12])
 {
     uint32_t state = s[WICKBADGER_RECORD_STATE];
     if (s[WICKBADGER_RECORD_CHANNEL] > 255 || s[WICKBADGER_RECORD_COUNT] > 255 || s[WICKBADGER_RECORD_KNOWN] > 1 || state > 3)
@@ -138,7 +138,7 @@ static uint32_t record_fault(const uint32_t s[12])
     return 0;
 }
 
-static void become(uint32_t s[12], uint32_t state, uint32_t size, uint32_t exponent, uint32_t left, uint32_t retries, uint32_t time)
+static inline void become(uint32_t s[12], uint32_t state, uint32_t size, uint32_t exponent, uint32_t left, uint32_t retries, uint32_t time)
 {
     s[WICKBADGER_RECORD_STATE] = state;
     s[WICKBADGER_RECORD_SIZE] = size;
@@ -163,7 +163,7 @@ uint32_t plain_offer(uint32_t s[12], uint32_t size)
     return 0;
 }
 
-static int earlier(uint32_t a, uint32_t b)
+static inline int earlier(uint32_t a, uint32_t b)
 {
     return b - a - 1 < 0x7FFFFFFF;
 }
@@ -174,7 +174,7 @@ struct found {
     int pending;
 };
 
-static struct found find(const uint8_t *bytes, const uint32_t fields[11], uint32_t sid, uint32_t r)
+static inline struct found find(const uint8_t *bytes, const uint32_t fields[11], uint32_t sid, uint32_t r)
 {
     struct found f = {0, 0, 0, 0};
     uint32_t n = fields[2], null = fields[9];
@@ -199,7 +199,7 @@ static struct found find(const uint8_t *bytes, const uint32_t fields[11], uint32
 }
 
 /* Passes contention opportunities, interval by interval: 1 and where it sends, or 0 and how many are left. */
-static int pass(const uint8_t *bytes, const uint32_t fields[11], uint32_t r, uint32_t *left)
+static inline int pass(const uint8_t *bytes, const uint32_t fields[11], uint32_t r, uint32_t *left)
 {
     struct element e = element(bytes, 0);
     for (uint32_t i = 0; i < fields[9]; i++) {
@@ -223,7 +223,7 @@ static int pass(const uint8_t *bytes, const uint32_t fields[11], uint32_t r, uin
 }
 
 /* Steps 2 and 3: 1 if the station is then deferring. */
-static int settle(uint32_t s[12], const uint32_t fields[11], int pending, uint16_t draw)
+static inline int settle(uint32_t s[12], const uint32_t fields[11], int pending, uint16_t draw)
 {
     uint32_t state = s[WICKBADGER_RECORD_STATE], size = s[WICKBADGER_RECORD_SIZE];
     if (state == WICKBADGER_WAITING) {
@@ -247,7 +247,7 @@ static int settle(uint32_t s[12], const uint32_t fields[11], int pending, uint16
     return state == WICKBADGER_DEFERRING;
 }
 
-static uint32_t hear_fault(const uint32_t s[12], const uint32_t fields[11], uint32_t present)
+static inline uint32_t hear_fault(const uint32_t s[12], const uint32_t fields[11], uint32_t present)
 {
     if (fields[0] != s[WICKBADGER_RECORD_CHANNEL])
         return WICKBADGER_CHANNEL;
