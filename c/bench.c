@@ -11,7 +11,7 @@
 #include "plain.h"
 #include "wickbadger.h"
 
-enum { ROUNDS = 15, ELEMENTS = 240, BYTES = 16 + 4 * ELEMENTS };
+enum { ROUNDS = 201, ELEMENTS = 240, BYTES = 16 + 4 * ELEMENTS };
 
 static uint8_t message[BYTES];
 static volatile uint32_t sink;
