@@ -17,7 +17,7 @@ use Rattle.message.specs.Fields.{badBackoffs}
 use Rattle.message.specs.Rules.{granting, misordered, misplaced, faultOf, nothingYet, advanced, endedAt, walked}
 use Rattle.message.specs.Map.{mapLength}
 use Rattle.message.specs.Reading.{mapOf, readOf}
-use Rattle.message.proofs.Ways.{fault-none, or-none}
+use Rattle.message.proofs.Ways.{no-fault, or-none}
 use Rattle.message.proofs.Stores.{length-listed}
 use Rattle.message.proofs.Trips.{Fits, whole-narrow, map-back, fields-back, reads-back}
 use Rattle.headend.specs.declared.record.Headend.{Headend}
@@ -94,17 +94,17 @@ first-clean = refl
 module _ (last o : ℕ) (g : Bool) (after : last < o) (short : g ≡ true → o ≤ last + 255) (far : o ≤ 4096) where
   grant-clean : (sid : ℕ) (b : Bool) → unicast sid ≡ true → 0 ≡ faultOf (opened last g) (record { sid = sid; iuc = cond b 5 6; offset = o })
   unfolding misordered misplaced sidAllowed
-  grant-clean sid true u = fault-none (opened last g) (record { sid = sid; iuc = 5; offset = o }) refl refl (rw u refl) (lt-leb o last after) (le-ltb 4096 o far) (not-too-long g last o short)
-  grant-clean sid false u = fault-none (opened last g) (record { sid = sid; iuc = 6; offset = o }) refl refl (rw u refl) (lt-leb o last after) (le-ltb 4096 o far) (not-too-long g last o short)
+  grant-clean sid true u = no-fault (opened last g) (record { sid = sid; iuc = 5; offset = o }) refl refl (rw u refl) (lt-leb o last after) (le-ltb 4096 o far) (not-too-long g last o short)
+  grant-clean sid false u = no-fault (opened last g) (record { sid = sid; iuc = 6; offset = o }) refl refl (rw u refl) (lt-leb o last after) (le-ltb 4096 o far) (not-too-long g last o short)
 
   null-clean : 0 ≡ faultOf (opened last g) (null o)
   unfolding misordered misplaced sidAllowed
-  null-clean = fault-none (opened last g) (null o) refl refl refl (lt-leb o last after) (le-ltb 4096 o far) (not-too-long g last o short)
+  null-clean = no-fault (opened last g) (null o) refl refl refl (lt-leb o last after) (le-ltb 4096 o far) (not-too-long g last o short)
 
 module _ (n l : ℕ) where
   pending-clean : (sid : ℕ) → unicast sid ≡ true → 0 ≡ faultOf (shut n l) (record { sid = sid; iuc = 5; offset = l })
   unfolding misordered misplaced sidAllowed
-  pending-clean sid u = fault-none (shut n l) (record { sid = sid; iuc = 5; offset = l }) refl refl (rw u refl) (rw (eq-eqb l l refl) refl) refl refl
+  pending-clean sid u = no-fault (shut n l) (record { sid = sid; iuc = 5; offset = l }) refl refl (rw u refl) (rw (eq-eqb l l refl) refl) refl refl
 
   walk-pendings : (i : ℕ) (qs : List Request) → Sane qs → walked i (shut n l) (pendings l qs) ≡ Whole n l
   unfolding pendings walked endedAt advanced

@@ -15,14 +15,17 @@ use Rattle.message.specs.declared.rules.Progress.{Progress}
 use Rattle.message.specs.declared.rules.Walked.{Walked}
 use Rattle.message.specs.declared.rules.Walked.the-variants.{Whole, Fault}
 use Rattle.message.specs.declared.reading.Reading.{Reading}
+use Rattle.message.specs.declared.reading.Verdict.{Verdict}
 use Rattle.message.specs.declared.reading.Verdict.the-variants.{Accepted, Refused}
+use Rattle.message.specs.declared.reading.Checked.{Checked}
+use Rattle.message.specs.declared.reading.Checked.the-variants as checked
 use Rattle.message.specs.Element.{elementIn, elementAt}
 use Rattle.message.specs.Fields.{fieldsOf, countOf, badBackoff, badBackoffs}
 use Rattle.message.specs.Refusals.{refusal}
 use Rattle.message.specs.Lists.{listed, keep, gather}
 use Rattle.message.specs.Rules.{granting, unknownUse, misordered, wrongSid, misplaced, tooFar, grantTooLong, faultOf, nothingYet, advanced, endedAt, walked}
 use Rattle.message.specs.Map.{Interval, firstOffset, intervals, mapLength, afterNull}
-use Rattle.message.specs.Reading.{headerFault, verdictOf, mapOf, readOf}
+use Rattle.message.specs.Reading.{headerFault, verdictOf, mapOf, readOf, checkedBy}
 use Rattle.message.proofs.Ways.{passed, advanced-after, Sound, header-sound, element-there}
 
 -- what is kept of two lists, and gathered from them
@@ -304,3 +307,26 @@ accepted s reading w = header (eqb (headerFault s) 0) refl w
     header : (t : Bool) → eqb (headerFault s) 0 ≡ t → cond t (verdictOf (mapOf s .fields) (countOf s) (walked 0 nothingYet (mapOf s .elements))) (Refused (refusal (headerFault s) 0)) ≡ Accepted reading → Accept s reading
     header false h x = let z : _≡_ {A = ℕ} 0 1 = cc in absurd (omega arith)
     header true h x = whole (header-sound s (eqb-true (headerFault s) 0 h)) (walked 0 nothingYet (mapOf s .elements)) refl x
+
+-- what a check that says no more than the bytes don't tell leaves of the verdict
+module _ (s : List ℕ) (c : Checked) (is : c ≡ checkedBy (readOf s)) where
+  pub checked-whole : (k n l : ℕ) → c ≡ checked.Whole k n l → readOf s ≡ Accepted (record { fields = fieldsOf s; n = n; null = k; length = l })
+  checked-whole k n l e = go (readOf s) refl (sym is ∙ e)
+    where
+      go : (v : Verdict) → readOf s ≡ v → checkedBy v ≡ checked.Whole k n l → v ≡ Accepted (record { fields = fieldsOf s; n = n; null = k; length = l })
+      go (Accepted r) w h =
+          let a : k ≡ r .null = cc in
+          let b : n ≡ r .n = cc in
+          let d : l ≡ r .length = cc in
+          rw (a, b, d, ← accepted s r w .fields) refl
+      go (Refused why) w h = absurd (let z : _≡_ {A = ℕ} 0 1 = cc in omega arith)
+
+  pub checked-fault : (number element : ℕ) → c ≡ checked.Fault number element → readOf s ≡ Refused (refusal number element)
+  checked-fault number element e = go (readOf s) (sym is ∙ e)
+    where
+      go : (v : Verdict) → checkedBy v ≡ checked.Fault number element → v ≡ Refused (refusal number element)
+      go (Accepted r) h = absurd (let z : _≡_ {A = ℕ} 0 1 = cc in omega arith)
+      go (Refused why) h =
+          let a : number ≡ why .number = cc in
+          let b : element ≡ why .element = cc in
+          rw (a, b) refl

@@ -16,11 +16,12 @@ use Rattle.message.specs.declared.grants.Found.the-variants.{At, Nothing
 use Rattle.message.specs.declared.grants.Granted.{Granted}
 use Rattle.message.specs.declared.grants.Granted.the-variants as granted
 use Rattle.message.specs.declared.reading.Reading.{Reading}
-use Rattle.message.specs.declared.reading.Verdict.{Verdict}
 use Rattle.message.specs.declared.reading.Verdict.the-variants as verdict
 use Rattle.message.specs.declared.refusal.Refusal.{Refusal}
 use Rattle.slots.specs.declared.time.MiniSlot.{MiniSlot}
 use Rattle.slots.specs.Time.{movedOn}
+use Rattle.message.specs.declared.fields.Fields.{Fields}
+use Rattle.message.specs.Fields.{fieldsOf}
 use Rattle.message.specs.Reading.{readOf}
 use Rattle.message.specs.Element.{elementAt}
 use Rattle.message.specs.Map.{Interval, firstOffset, intervals, grantsTo}
@@ -105,12 +106,10 @@ pub granted-at : (start : ℕ) (f : Found) (r : MiniSlot) (o l : ℕ) → f ≡ 
 granted-at start f r o l e h = rw (e, ← h) refl
 
 module _ (s : List ℕ) (sid k : ℕ) where
-  pub grant-refused : (v : Verdict) (why : Refusal) → v ≡ readOf s → v ≡ verdict.Refused why → granted.Refused why ≡ grantOf s sid k
+  pub grant-refused : (why : Refusal) → readOf s ≡ verdict.Refused why → granted.Refused why ≡ grantOf s sid k
   unfolding grantOf
-  grant-refused v why h e = rw (← h, e) refl
+  grant-refused why e = rw e refl
 
-  pub grant-read : (v : Verdict) (r : Reading) (f : Found) (g : Granted) → v ≡ readOf s → v ≡ verdict.Accepted r → f ≡ kthGrant (listed (elementAt s) 0 (r .n)) sid k → g ≡ grantedAt (r .fields .start .0) f → g ≡ grantOf s sid k
+  pub grant-read : (r : Reading) (fs : Fields) (f : Found) (g : Granted) → readOf s ≡ verdict.Accepted r → fs ≡ fieldsOf s → f ≡ kthGrant (listed (elementAt s) 0 (r .n)) sid k → g ≡ grantedAt (fs .start .0) f → g ≡ grantOf s sid k
   unfolding grantOf
-  grant-read v r f g h e a b =
-      let acc = accepted s r (sym h ∙ e) in
-      rw (← h, e, acc .elements, ← acc .fields, ← a) b
+  grant-read r fs f g e h a b = rw (e, accepted s r e .elements, ← h, ← a) b

@@ -18,10 +18,11 @@ use Rattle.message.specs.Sids.{within, sidAllowed}
 use Rattle.message.specs.Element.{elementIn, elementAt}
 use Rattle.message.specs.Fields.{fieldsOf, countOf, badBackoffs}
 use Rattle.message.specs.Refusals.{refusal}
-use Rattle.message.specs.Rules.{granting, unknownUse, misordered, wrongSid, misplaced, tooFar, grantTooLong, faultOf, nothingYet, advanced, endedAt, walked}
+use Rattle.message.specs.Rules.{granting, unknownUse, misordered, wrongSid, misplaced, tooFar, grantTooLong, standingFault, faultOf, nothingYet, advanced, endedAt, walked}
 use Rattle.message.specs.Lists.{listed}
-use Rattle.message.specs.Reading.{headerFault, verdictOf, readOf}
-use Rattle.message.specs.declared.reading.Verdict.{Verdict}
+use Rattle.message.specs.Reading.{headerFault, verdictOf, readOf, checkedBy}
+use Rattle.message.specs.declared.reading.Checked.the-variants as checked
+use Rattle.message.specs.declared.refusal.Refusal.{Refusal}
 use Rattle.message.specs.declared.reading.Verdict.the-variants.{Refused}
 
 module _ (sid : ℕ) where
@@ -66,34 +67,63 @@ module _ (p : Progress) (e : Element) where
   unfolding misplaced
   placed-before h k = rw (h, k) refl
 
-  pub fault-5 : unknownUse e ≡ true → 5 ≡ faultOf p e
-  unfolding faultOf
-  fault-5 a = simp a
+  pub standing-5 : unknownUse e ≡ true → 5 ≡ standingFault p e
+  unfolding standingFault
+  standing-5 a = simp a
 
-  pub fault-10 : unknownUse e ≡ false → misordered p e ≡ true → 10 ≡ faultOf p e
-  unfolding faultOf
-  fault-10 a b = simp (a, b)
+  pub standing-10 : unknownUse e ≡ false → misordered p e ≡ true → 10 ≡ standingFault p e
+  unfolding standingFault
+  standing-10 a b = simp (a, b)
 
-  pub fault-6 : unknownUse e ≡ false → misordered p e ≡ false → wrongSid e ≡ true → 6 ≡ faultOf p e
-  unfolding faultOf
-  fault-6 a b c = simp (a, b, c)
+  module _ (a : unknownUse e ≡ false) (b : misordered p e ≡ false) where
+    pub standing-6 : wrongSid e ≡ true → 6 ≡ standingFault p e
+    unfolding standingFault
+    standing-6 c = simp (a, b, c)
 
-  module _ (a : unknownUse e ≡ false) (b : misordered p e ≡ false) (c : wrongSid e ≡ false) where
-    pub fault-7 : misplaced p e ≡ true → 7 ≡ faultOf p e
-    unfolding faultOf
-    fault-7 d = simp (a, b, c, d)
+    pub standing-7 : wrongSid e ≡ false → misplaced p e ≡ true → 7 ≡ standingFault p e
+    unfolding standingFault
+    standing-7 c d = simp (a, b, c, d)
 
-    pub fault-8 : misplaced p e ≡ false → tooFar p e ≡ true → 8 ≡ faultOf p e
-    unfolding faultOf
-    fault-8 d f = simp (a, b, c, d, f)
+    pub standing-none : wrongSid e ≡ false → misplaced p e ≡ false → 0 ≡ standingFault p e
+    unfolding standingFault
+    standing-none c d = simp (a, b, c, d)
 
-    pub fault-9 : misplaced p e ≡ false → tooFar p e ≡ false → grantTooLong p e ≡ true → 9 ≡ faultOf p e
-    unfolding faultOf
-    fault-9 d f g = simp (a, b, c, d, f, g)
+  -- what follows 5, 10, 6, 7 in the paper's order
+  pub fault-after : faultOf p e ≡ cond (eqb (standingFault p e) 0) (cond (tooFar p e) 8 (cond (grantTooLong p e) 9 0)) (standingFault p e)
+  unfolding faultOf standingFault
+  fault-after = go (unknownUse e) (misordered p e) (wrongSid e) (misplaced p e) (cond (tooFar p e) 8 (cond (grantTooLong p e) 9 0))
+    where
+      go : (a b c d : Bool) (x : ℕ) → cond a 5 (cond b 10 (cond c 6 (cond d 7 x))) ≡ cond (eqb (cond a 5 (cond b 10 (cond c 6 (cond d 7 0)))) 0) x (cond a 5 (cond b 10 (cond c 6 (cond d 7 0))))
+      go true b c d x = refl
+      go false true c d x = refl
+      go false false true d x = refl
+      go false false false true x = refl
+      go false false false false x = refl
 
-    pub fault-none : misplaced p e ≡ false → tooFar p e ≡ false → grantTooLong p e ≡ false → 0 ≡ faultOf p e
-    unfolding faultOf
-    fault-none d f g = simp (a, b, c, d, f, g)
+  module _ (f : ℕ) (is : f ≡ standingFault p e) where
+    pub fault-standing : (f ≡ 0 → ⊥) → f ≡ faultOf p e
+    fault-standing h = rw (fault-after, ← is, ne-eqb f 0 h) refl
+
+    module _ (h : f ≡ 0) where
+      pub fault-8 : tooFar p e ≡ true → 8 ≡ faultOf p e
+      fault-8 a = rw (fault-after, ← is, h, a) refl
+
+      pub fault-9 : tooFar p e ≡ false → grantTooLong p e ≡ true → 9 ≡ faultOf p e
+      fault-9 a b = rw (fault-after, ← is, h, a, b) refl
+
+      pub fault-none : tooFar p e ≡ false → grantTooLong p e ≡ false → 0 ≡ faultOf p e
+      fault-none a b = rw (fault-after, ← is, h, a, b) refl
+
+    -- after the Null there is no other fault
+    pub fault-closed : p .closed ≡ true → p .granting ≡ false → f ≡ faultOf p e
+    fault-closed c g = rw (fault-after, ← is, c, g) (go f)
+      where
+        go : (n : ℕ) → n ≡ cond (eqb n 0) 0 n
+        go zero = refl
+        go (suc n) = rw (ne-eqb (suc n) 0 (λ z. absurd (omega arith))) refl
+
+  pub no-fault : unknownUse e ≡ false → misordered p e ≡ false → wrongSid e ≡ false → misplaced p e ≡ false → tooFar p e ≡ false → grantTooLong p e ≡ false → 0 ≡ faultOf p e
+  no-fault a b c d = fault-none 0 (standing-none a b c d) refl
 
   module _ (i : ℕ) where
     pub advanced-after : p .closed ≡ true → p ≡ advanced p e i
@@ -103,6 +133,17 @@ module _ (p : Progress) (e : Element) where
     pub advanced-null : p .closed ≡ false → e .iuc ≡ 7 → record { first = false; closed = true; null = i; offset = e .offset; granting = false } ≡ advanced p e i
     unfolding advanced
     advanced-null h k = rw (h, k) refl
+
+    -- the Null ends a grant, too
+    pub advanced-closed : (q : Progress) → p .closed ≡ false → q ≡ advanced p e i → q .closed ≡ true → q .granting ≡ false
+    unfolding advanced
+    advanced-closed q h a c = go (eqb (e .iuc) 7) refl
+      where
+        go : (t : Bool) → eqb (e .iuc) 7 ≡ t → q .granting ≡ false
+        go true k = rw (a, h, k) refl
+        go false k =
+            let open' : q .closed ≡ false = rw (a, h, k) refl in
+            absurd (let z : _≡_ {A = ℕ} 0 1 = cc in omega arith)
 
     pub advanced-before : (g : Bool) → p .closed ≡ false → (e .iuc ≡ 7 → ⊥) → g ≡ granting (e .iuc) → record { first = false; closed = false; null = 0; offset = e .offset; granting = g } ≡ advanced p e i
     unfolding advanced
@@ -226,15 +267,33 @@ module _ (el : ℕ → Element) (n : ℕ) (whole : Walked) (i : ℕ) (p : Progre
     pub walk-next : (f : ℕ) (q : Progress) → f ≡ faultOf p e → f ≡ 0 → q ≡ advanced p e i → walked (i + 1) q (listed el (i + 1) (n - (i + 1))) ≡ whole
     walk-next f q h k g = rw (eq-eqb (faultOf p e) 0 (sym h ∙ k), ← g) at next
 
+    -- after the Null
+    module _ (c : p .closed ≡ true) (g : p .granting ≡ false) (f : ℕ) (h : f ≡ standingFault p e) where
+      pub rest-fault : (f ≡ 0 → ⊥) → Fault (record { number = f; element = i }) ≡ whole
+      rest-fault k = walk-fault f (fault-closed p e f h c g) k
+
+      pub rest-next : f ≡ 0 → walked (i + 1) p (listed el (i + 1) (n - (i + 1))) ≡ whole
+      rest-next k = walk-next f p (fault-closed p e f h c g) k (advanced-after p e i c)
+
 module _ (s : List ℕ) where
   pub read-refused : (f : ℕ) → f ≡ headerFault s → (f ≡ 0 → ⊥) → Refused (record { number = f; element = 0 }) ≡ readOf s
   unfolding readOf
   read-refused f h k = rw (ne-eqb (headerFault s) 0 (λ z. k (h ∙ z)), ← h) refl
 
-  pub read-walked : (f : Fields) (n : ℕ) (w : Walked) (r : Verdict) → headerFault s ≡ 0 → f ≡ fieldsOf s → n ≡ countOf s → w ≡ walked 0 nothingYet (listed (elementIn s) 0 n) → r ≡ verdictOf f n w → r ≡ readOf s
-  unfolding readOf
-  read-walked f n w r h a b c d = rw h (rw (c, a, b) at d)
+  pub check-refused : (f : ℕ) → f ≡ headerFault s → (f ≡ 0 → ⊥) → checked.Fault f 0 ≡ checkedBy (readOf s)
+  check-refused f h k = rw (← read-refused f h k) refl
 
-pub ruleset ways = (said, said-not, not-true, sid-1, sid-2, sid-3, sid-7, sid-other, ordered-after, ordered-before, placed-after, placed-first, placed-before, fault-5, fault-10, fault-6, fault-7, fault-8, fault-9, fault-none, advanced-after, advanced-null, advanced-before, ended-whole, ended-open)
+  module _ (n : ℕ) (w : Walked) (h : headerFault s ≡ 0) (is : n ≡ countOf s) (e : w ≡ walked 0 nothingYet (listed (elementIn s) 0 n)) where
+    read-walked : readOf s ≡ verdictOf (fieldsOf s) n w
+    unfolding readOf
+    read-walked = rw (h, e, is) refl
+
+    pub check-whole : (k l : ℕ) → w ≡ Whole k l → checked.Whole k n l ≡ checkedBy (readOf s)
+    check-whole k l v = rw (read-walked, v) refl
+
+    pub check-fault : (why : Refusal) → w ≡ Fault why → checked.Fault (why .number) (why .element) ≡ checkedBy (readOf s)
+    check-fault why v = rw (read-walked, v) refl
+
+pub ruleset ways = (said, said-not, not-true, sid-1, sid-2, sid-3, sid-7, sid-other, ordered-after, ordered-before, placed-after, placed-first, placed-before, standing-5, standing-10, standing-6, standing-7, standing-none, fault-standing, fault-8, fault-9, fault-none, advanced-after, advanced-null, advanced-before, ended-whole, ended-open)
 
 pub ruleset header-ways = (header-1, header-none, header-many, header-3, header-4, header-good, said, said-not)

@@ -1,7 +1,7 @@
 // An information element: SID 14 bits, use (IUC) 4 bits, offset 14 bits.
 ghost use mathlib.Core.Path.{_≡_};
-ghost use Prim.Native.Nat.{_+_, _*_, _≤_, _<_};
-ghost use lib.ListN.{length};
+ghost use Prim.Native.Nat.{_+_, _*_, _/_, _%_, _≤_, _<_};
+ghost use lib.ListN.{length, getD};
 ghost use Rattle.message.specs.Element.{wordAt, elementOf, elementIn, elementAt};
 
 pub struct Element {
@@ -55,13 +55,26 @@ fn element_of(word: u32) -> Element
     }
 }
 
-// Four bytes, most significant first.
+// Four bytes, most significant first. They are put together the other way round and then turned:
+// the compiler sees one load in each of the two, and none in the sum that they come to.
 pub(crate) fn word_at(bytes: &[u8], at: usize) -> u32
     requires { ⌜ at + 4 ≤ length (now bytes) ⌝ }
     ensures { λ r. ⌜ r ≡ wordAt (now (bytes .entry)) at ⌝ }
 {
     let four = [bytes[at], bytes[at + 1], bytes[at + 2], bytes[at + 3]];
-    wide(four[0]) * 16777216 + wide(four[1]) * 65536 + wide(four[2]) * 256 + wide(four[3])
+    turned(least_first(four))
+}
+
+fn least_first(four: [u8; 4]) -> u32
+    ensures { λ r. ⌜ (r % 256 ≡ getD four 0 0) × ((r / 256 % 256 ≡ getD four 1 0) × ((r / 65536 % 256 ≡ getD four 2 0) × (r / 16777216 ≡ getD four 3 0))) ⌝ }
+{
+    wide(four[0]) + wide(four[1]) * 256 + wide(four[2]) * 65536 + wide(four[3]) * 16777216
+}
+
+fn turned(word: u32) -> u32
+    ensures { λ r. ⌜ r ≡ word % 256 * 16777216 + word / 256 % 256 * 65536 + word / 65536 % 256 * 256 + word / 16777216 ⌝ }
+{
+    word % 256 * 16777216 + word / 256 % 256 * 65536 + word / 65536 % 256 * 256 + word / 16777216
 }
 
 pub(crate) fn wide(x: u8) -> u32

@@ -6,8 +6,9 @@ ghost use Rattle.message.specs.Element.{elementAt};
 ghost use Rattle.message.specs.Lists.{listed};
 ghost use Rattle.message.specs.Grants.{grantsSid, hits, passedBy, kthGrant, grantedAt, grantOf};
 use crate::element::Element;
-use crate::reading::Verdict;
-use crate::reading::read;
+use crate::fields::fields_of;
+use crate::reading::Checked;
+use crate::reading::check;
 use crate::refusal::Refusal;
 use crate::rules::granting;
 use slots::MiniSlot;
@@ -109,11 +110,11 @@ fn granted_at(start: MiniSlot, found: Found) -> Granted
 pub fn grant(bytes: &[u8], sid: u32, k: u32) -> Granted
     ensures { λ r. ⌜ r ≡ grantOf (now (bytes .entry)) sid k ⌝ }
 {
-    match read(bytes) {
-        Verdict::Accepted(reading) => {
-            let fields = reading.fields;
-            granted_at(fields.start, find_grant(bytes, reading.n, sid, k))
+    match check(bytes) {
+        Checked::Whole { null, n, length } => {
+            let fields = fields_of(bytes);
+            granted_at(fields.start, find_grant(bytes, n, sid, k))
         }
-        Verdict::Refused(refusal) => Granted::Refused(refusal),
+        Checked::Fault { number, element } => Granted::Refused(Refusal { number, element }),
     }
 }

@@ -1,22 +1,25 @@
 // A message read: its fields, how many elements, where the Null stands and the map length.
 ghost use mathlib.Core.Path.{_≡_};
-ghost use Prim.Native.Nat.{_+_, _*_, _≤_};
+ghost use mathlib.Core.Bool.{true, false};
+ghost use Prim.Native.Nat.{_+_, _-_, _*_, _≤_};
 ghost use lib.ListN.{length};
 ghost use Rattle.message.specs.Rules.{walked, nothingYet};
 ghost use Rattle.message.specs.Lists.{listed};
 ghost use Rattle.message.specs.Element.{elementIn};
-ghost use Rattle.message.specs.Reading.{verdictOf, headerFault, readOf};
+ghost use Rattle.message.specs.Reading.{headerFault, readOf, checkedBy};
 use crate::element::element_in;
 use crate::element::wide;
 use crate::fields::Fields;
 use crate::fields::bad_backoffs_in;
 use crate::fields::fields_of;
 use crate::refusal::Refusal;
+use crate::rules::Progress;
 use crate::rules::Walked;
 use crate::rules::advance;
 use crate::rules::ended;
 use crate::rules::fault;
 use crate::rules::nothing_yet;
+use crate::rules::standing_fault;
 
 pub struct Reading {
     pub fields: Fields,
@@ -57,7 +60,8 @@ fn header_fault(bytes: &[u8]) -> u32
     0
 }
 
-// The elements in order, up to the first that is at fault.
+// The elements in order, up to the first that is at fault. At the Null the rest has a loop of its
+// own, with fewer rules to look at.
 fn walk(bytes: &[u8], n: u32) -> Walked
     requires { ⌜ 16 + 4 * n ≤ length (now bytes) ⌝ }
     ensures { λ r. ⌜ r ≡ walked 0 nothingYet (listed (elementIn (now (bytes .entry))) 0 n) ⌝ }
@@ -78,34 +82,72 @@ fn walk(bytes: &[u8], n: u32) -> Walked
         }
         p = advance(p, e, i);
         i += 1;
+        if p.closed {
+            break walk_rest(bytes, n, p, i);
+        }
     };
     out
 }
 
-fn verdict_of(fields: Fields, n: u32, walked: Walked) -> Verdict
-    ensures { λ r. ⌜ r ≡ verdictOf fields n walked ⌝ }
+fn walk_rest(bytes: &[u8], n: u32, p: Progress, from: u32) -> Walked
+    requires { ⌜ (p .closed ≡ true) × ((p .granting ≡ false) × ((from ≤ n) × (16 + 4 * n ≤ length (now bytes)))) ⌝ }
+    ensures { λ r. ⌜ r ≡ walked from p (listed (elementIn (now (bytes .entry))) from (n - from)) ⌝ }
 {
-    match walked {
-        Walked::Whole { null, length } => Verdict::Accepted(Reading {
-            fields,
-            n,
-            null,
-            length,
-        }),
-        Walked::Fault(refusal) => Verdict::Refused(refusal),
+    let mut i = from;
+    let out = loop {
+        if n <= i {
+            break ended(p, i);
+        }
+        let e = element_in(bytes, i as usize);
+        let f = standing_fault(p, e);
+        if f != 0 {
+            break Walked::Fault(Refusal {
+                number: f,
+                element: i,
+            });
+        }
+        i += 1;
+    };
+    out
+}
+
+// What the checks of a message come to, and the bytes alone don't tell. `read` and `grant` both stand
+// on it: the checks are compiled once, and what is left of `read` is short enough to be inlined.
+pub(crate) enum Checked {
+    Whole { null: u32, n: u32, length: u32 },
+    Fault { number: u32, element: u32 },
+}
+
+pub(crate) fn check(bytes: &[u8]) -> Checked
+    ensures { λ r. ⌜ r ≡ checkedBy (readOf (now (bytes .entry))) ⌝ }
+{
+    let f = header_fault(bytes);
+    if f != 0 {
+        return Checked::Fault {
+            number: f,
+            element: 0,
+        };
+    }
+    let n = wide(bytes[2]);
+    match walk(bytes, n) {
+        Walked::Whole { null, length } => Checked::Whole { null, n, length },
+        Walked::Fault(why) => Checked::Fault {
+            number: why.number,
+            element: why.element,
+        },
     }
 }
 
 pub fn read(bytes: &[u8]) -> Verdict
     ensures { λ r. ⌜ r ≡ readOf (now (bytes .entry)) ⌝ }
 {
-    let f = header_fault(bytes);
-    if f != 0 {
-        return Verdict::Refused(Refusal {
-            number: f,
-            element: 0,
-        });
+    match check(bytes) {
+        Checked::Whole { null, n, length } => Verdict::Accepted(Reading {
+            fields: fields_of(bytes),
+            n,
+            null,
+            length,
+        }),
+        Checked::Fault { number, element } => Verdict::Refused(Refusal { number, element }),
     }
-    let n = wide(bytes[2]);
-    verdict_of(fields_of(bytes), n, walk(bytes, n))
 }

@@ -1,7 +1,7 @@
 // The rules of the elements, one test each, and the first that an element breaks.
 ghost use mathlib.Core.Path.{_≡_};
 ghost use Rattle.message.specs.Sids.{within, sidAllowed};
-ghost use Rattle.message.specs.Rules.{granting, unknownUse, misordered, wrongSid, misplaced, tooFar, grantTooLong, faultOf, nothingYet, advanced, endedAt};
+ghost use Rattle.message.specs.Rules.{granting, unknownUse, misordered, wrongSid, misplaced, tooFar, grantTooLong, standingFault, faultOf, nothingYet, advanced, endedAt};
 use crate::element::Element;
 use crate::refusal::Refusal;
 
@@ -97,9 +97,9 @@ fn grant_too_long(p: Progress, e: Element) -> bool
     p.granting & ((p.offset as u64) + Element::LONGEST_GRANT < (e.offset as u64))
 }
 
-// The first rule that an element breaks, or 0.
-pub(crate) fn fault(p: Progress, e: Element) -> u32
-    ensures { λ r. ⌜ r ≡ faultOf p e ⌝ }
+// The first of 5, 10, 6, 7 that an element breaks, or 0. After the Null no other can be broken.
+pub(crate) fn standing_fault(p: Progress, e: Element) -> u32
+    ensures { λ r. ⌜ r ≡ standingFault p e ⌝ }
 {
     if unknown_use(e) {
         return Refusal::USE;
@@ -112,6 +112,17 @@ pub(crate) fn fault(p: Progress, e: Element) -> u32
     }
     if misplaced(p, e) {
         return Refusal::PLACE;
+    }
+    0
+}
+
+// The first rule that an element breaks, or 0.
+pub(crate) fn fault(p: Progress, e: Element) -> u32
+    ensures { λ r. ⌜ r ≡ faultOf p e ⌝ }
+{
+    let f = standing_fault(p, e);
+    if f != 0 {
+        return f;
     }
     if too_far(p, e) {
         return Refusal::SPAN;

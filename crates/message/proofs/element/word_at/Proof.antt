@@ -4,96 +4,48 @@ use borrow.Author.Needs.{needs}
 use Rattle.message.proofs.element.word_at.Statement.{statement}
 use Rattle.message.proofs.element.word_at.Tie as tie
 
-shared-slice-read-wide : tie.Need-shared-slice-read-wide
-shared-slice-read-wide c = search needs
+shared-slice-read-t5 : tie.Need-shared-slice-read-t5
+shared-slice-read-t5 c = search needs
 
-add-wide : tie.Need-add-wide
-add-wide c = search needs
+add-t6 : tie.Need-add-t6
+add-t6 c = search needs
 
-shared-slice-read-wide-2 : tie.Need-shared-slice-read-wide-2
-shared-slice-read-wide-2 c = search needs
+shared-slice-read-t8 : tie.Need-shared-slice-read-t8
+shared-slice-read-t8 c = search needs
 
-add-wide-2 : tie.Need-add-wide-2
-add-wide-2 c = search needs
+add-t9 : tie.Need-add-t9
+add-t9 c = search needs
 
-shared-slice-read-wide-3 : tie.Need-shared-slice-read-wide-3
-shared-slice-read-wide-3 c = search needs
+shared-slice-read-t11 : tie.Need-shared-slice-read-t11
+shared-slice-read-t11 c = search needs
 
-add-wide-3 : tie.Need-add-wide-3
-add-wide-3 c = search needs
+add-t12 : tie.Need-add-t12
+add-t12 c = search needs
 
-shared-slice-read-wide-4 : tie.Need-shared-slice-read-wide-4
-shared-slice-read-wide-4 c = search needs
+shared-slice-read-t14 : tie.Need-shared-slice-read-t14
+shared-slice-read-t14 c = search needs
 
-array-read-wide : tie.Need-array-read-wide
-array-read-wide c = search needs
+least-first-requires : tie.Need-least-first-requires
+least-first-requires c κs = search needs
 
-wide-requires : tie.Need-wide-requires
-wide-requires c κs = search needs
-
-mul-result : tie.Need-mul-result
-mul-result c = search needs
-
-array-read-wide-2 : tie.Need-array-read-wide-2
-array-read-wide-2 c = search needs
-
-wide-requires-2 : tie.Need-wide-requires-2
-wide-requires-2 c κs = search needs
-
-mul-result-2 : tie.Need-mul-result-2
-mul-result-2 c = search needs
-
-add-result : tie.Need-add-result
-add-result c = search needs
-
-array-read-wide-3 : tie.Need-array-read-wide-3
-array-read-wide-3 c = search needs
-
-wide-requires-3 : tie.Need-wide-requires-3
-wide-requires-3 c κs = search needs
-
-mul-result-3 : tie.Need-mul-result-3
-mul-result-3 c = search needs
-
-add-result-2 : tie.Need-add-result-2
-add-result-2 c = search needs
-
-array-read-wide-4 : tie.Need-array-read-wide-4
-array-read-wide-4 c = search needs
-
-wide-requires-4 : tie.Need-wide-requires-4
-wide-requires-4 c κs = search needs
-
-add-result-3 : tie.Need-add-result-3
-add-result-3 c = search needs
+turned-requires : tie.Need-turned-requires
+turned-requires c κs = search needs
 
 returns : tie.Need-returns
 unfolding wordAt
-returns c = omega arith
+returns c = let d = c .before .least-first .ensures in omega (arith, d .0, d .1 .0, d .1 .1 .0, d .1 .1 .1, c .turned .ensures)
 
 pub word-at-spec : {M : Type 1} → statement M
 word-at-spec =
     tie.close
     (tie.spec
-    shared-slice-read-wide
-    add-wide
-    shared-slice-read-wide-2
-    add-wide-2
-    shared-slice-read-wide-3
-    add-wide-3
-    shared-slice-read-wide-4
-    array-read-wide
-    wide-requires
-    mul-result
-    array-read-wide-2
-    wide-requires-2
-    mul-result-2
-    add-result
-    array-read-wide-3
-    wide-requires-3
-    mul-result-3
-    add-result-2
-    array-read-wide-4
-    wide-requires-4
-    add-result-3
+    shared-slice-read-t5
+    add-t6
+    shared-slice-read-t8
+    add-t9
+    shared-slice-read-t11
+    add-t12
+    shared-slice-read-t14
+    least-first-requires
+    turned-requires
     returns)

@@ -1,43 +1,35 @@
 use native.Mathlib.Omega.{arith}
-use mathlib.Core.Path.{sym, _∙_}
-use Rattle.message.proofs.Ways.{header-sound, read-refused, read-walked}
+use mathlib.Core.Path.{sym}
+use Rattle.message.proofs.Accepted.{accepted, checked-whole, checked-fault}
 use borrow.Author.Needs.{needs}
 use Rattle.message.proofs.reading.read.Statement.{statement}
 use Rattle.message.proofs.reading.read.Tie as tie
 
-header-fault-requires : tie.Need-header-fault-requires
-header-fault-requires c κs = search needs
+check-requires : tie.Need-check-requires
+check-requires c κs = search needs
 
-returns : tie.Need-returns
-returns c = read-refused _ _ (c .before .header-fault .ensures) (c .if1 .taken)
-
-shared-slice-read-wide : tie.Need-shared-slice-read-wide
-shared-slice-read-wide c = let h = header-sound _ (sym (c .before .before .header-fault .ensures) ∙ c .before .if1 .left) in search needs
-
-wide-requires : tie.Need-wide-requires
-wide-requires c κs = search needs
+enum-known-null : tie.Need-enum-known-null
+enum-known-null c = search needs
 
 fields-of-requires : tie.Need-fields-of-requires
-fields-of-requires c κs = let h = header-sound _ (sym (c .before .before .before .header-fault .ensures) ∙ c .before .before .if1 .left) in omega arith
+fields-of-requires c κs = let a = accepted _ _ (checked-whole _ _ (c .before .before .before .check .ensures) _ _ _ (c .before .null .given .1)) in omega (arith, a .sound .fits)
 
-walk-requires : tie.Need-walk-requires
-walk-requires c κs = let h = header-sound _ (sym (c .before .before .before .before .header-fault .ensures) ∙ c .before .before .before .if1 .left) in omega (arith, c .before .wide .ensures)
+enum-known-number : tie.Need-enum-known-number
+enum-known-number c = search needs
 
-verdict-of-requires : tie.Need-verdict-of-requires
-verdict-of-requires c κs = search needs
+returns : tie.Need-returns
+returns c = rw (c .fields-of .ensures) (sym (checked-whole _ _ (c .before .before .before .before .check .ensures) _ _ _ (c .before .before .null .given .1)))
 
 returns-2 : tie.Need-returns-2
-returns-2 c = read-walked _ _ _ _ _ (sym (c .before .before .before .before .before .before .header-fault .ensures) ∙ c .before .before .before .before .before .if1 .left) (c .before .before .fields-of .ensures) (c .before .before .before .wide .ensures .0) (c .before .walk .ensures) (c .verdict-of .ensures)
+returns-2 c = sym (checked-fault _ _ (c .before .before .before .check .ensures) _ _ (c .before .number .given .1))
 
 pub read-spec : {M : Type 1} → statement M
 read-spec =
     tie.close
     (tie.spec
-    header-fault-requires
-    returns
-    shared-slice-read-wide
-    wide-requires
+    check-requires
+    enum-known-null
     fields-of-requires
-    walk-requires
-    verdict-of-requires
+    enum-known-number
+    returns
     returns-2)
