@@ -213,15 +213,20 @@ module _ (s : List ℕ) (reading : Reading) (ok : readOf s ≡ Accepted reading)
     pub find-end : i ≤ reading .null → reading .null ≤ i → foundIn start σ r found (rest i) ≡ whole → found ≡ whole
     find-end h l left = sym (found-none start σ r found) ∙ (rw (rest-end i h l) at left)
 
-    pub find-next : (e next : Element) (found' : Found) → found' ≡ foundIn start σ r found (intervalTo e next ∷ []) → i < reading .null → e ≡ elementAt s i → next ≡ elementAt s (i + 1) → foundIn start σ r found (rest i) ≡ whole →
-        foundIn start σ r found' (rest (i + 1)) ≡ whole
-    find-next e next found' f more is then left = rw f (found-append start σ r found (intervalTo e next ∷ []) (rest (i + 1)) ∙ (rw (rest-next i more e next is then) at left))
+    module _ (e : Element) (found' : Found) (more : i < reading .null) (is : e ≡ elementAt s i) (left : foundIn start σ r found (rest i) ≡ whole) where
+      -- .. with an interval to the SID
+      pub find-next : (next : Element) (then : Found) → found' ≡ then → next ≡ elementAt s (i + 1) → then ≡ foundIn start σ r found (intervalTo e next ∷ []) → foundIn start σ r found' (rest (i + 1)) ≡ whole
+      find-next next then so is' f = rw (so ∙ f) (found-append start σ r found (intervalTo e next ∷ []) (rest (i + 1)) ∙ (rw (rest-next i more e next is is') at left))
+
+      -- .. and one to another SID, which adds nothing
+      pub find-other : found' ≡ found → (e .sid ≡ σ → ⊥) → foundIn start σ r found' (rest (i + 1)) ≡ whole
+      find-other so other = find-next (elementAt s (i + 1)) found so refl (noted-other start σ r found (intervalTo e (elementAt s (i + 1))) other)
 
   -- an opportunity's offset is small
-  module _ (left step count : ℕ) (e next : Element) (counts : count ≡ (next .offset - e .offset) / step) (few' : left < count) (i : ℕ) (more : i < reading .null) (is : e ≡ elementAt s i) (then : next ≡ elementAt s (i + 1)) where
+  module _ (left step : ℕ) (e next : Element) (i : ℕ) (more : i < reading .null) (is : e ≡ elementAt s i) (then : next ≡ elementAt s (i + 1)) (few' : left < (next .offset - e .offset) / step) where
     pub place-early : e .offset + left * step ≤ 4096
     place-early =
-        let l : left * step ≤ next .offset - e .offset = place-inside (next .offset - e .offset) step left (rw (← counts) few') in
+        let l : left * step ≤ next .offset - e .offset = place-inside (next .offset - e .offset) step left few' in
         omega (arith, rises i more e next is then, next-fits i more e next is then)
 
     pub place-fits : left * step < 4294967296
@@ -236,18 +241,29 @@ module _ (s : List ℕ) (reading : Reading) (ok : readOf s ≡ Accepted reading)
     unfolding passing
     pass-end h l here = rw (rest-end i h l) at here
 
-    module _ (e next : Element) (step count : ℕ) (counts : count ≡ (next .offset - e .offset) / step) (steps : step ≡ apart r (e .sid) (e .iuc)) (more : i < reading .null) (is : e ≡ elementAt s i) (then : next ≡ elementAt s (i + 1))
+    module _ (e : Element) (step : ℕ) (steps : step ≡ apart r (e .sid) (e .iuc)) (more : i < reading .null) (is : e ≡ elementAt s i)
         (here : passing (map (movedOn 32 start) (gather (contentionIn r) (rest i))) exponent left retries size ≡ whole) where
-      split : passing (map (movedOn 32 start) (spaced (e .offset) step count) ++ map (movedOn 32 start) (gather (contentionIn r) (rest (i + 1)))) exponent left retries size ≡ whole
-      split = rw (counts, steps) (rw (rest-next i more e next is then, contention-in, map-append) at here)
+      module _ (next : Element) (then : next ≡ elementAt s (i + 1)) where
+        abbrev count : ℕ
+        count = (next .offset - e .offset) / step
 
-      pub pass-sends : (q : Phase) (time : MiniSlot) → q ≡ Waiting exponent retries time size → left < count → time .0 ≡ movedOn 32 start (e .offset + left * step) → q ≡ whole
-      pass-sends q time speaks h t =
-          let z : time ≡ record { 0 = movedOn 32 start (e .offset + left * step) } = λ j. record { 0 = t j } in
-          speaks ∙ rw z (sym (passing-sends (movedOn 32 start) exponent retries size (map (movedOn 32 start) (gather (contentionIn r) (rest (i + 1)))) step count (e .offset) left h) ∙ split)
+        split : passing (map (movedOn 32 start) (spaced (e .offset) step count) ++ map (movedOn 32 start) (gather (contentionIn r) (rest (i + 1)))) exponent left retries size ≡ whole
+        split = rw steps (rw (rest-next i more e next is then, contention-in, map-append) at here)
 
-      pub pass-next : count ≤ left → passing (map (movedOn 32 start) (gather (contentionIn r) (rest (i + 1)))) exponent (left - count) retries size ≡ whole
-      pass-next h = sym (passing-on (movedOn 32 start) exponent retries size (map (movedOn 32 start) (gather (contentionIn r) (rest (i + 1)))) step count (e .offset) left h) ∙ split
+        pub pass-sends : (q : Phase) (time : MiniSlot) → q ≡ Waiting exponent retries time size → left < (next .offset - e .offset) / step → time .0 ≡ movedOn 32 start (e .offset + left * step) → q ≡ whole
+        pass-sends q time speaks h t =
+            let z : time ≡ record { 0 = movedOn 32 start (e .offset + left * step) } = λ j. record { 0 = t j } in
+            speaks ∙ rw z (sym (passing-sends (movedOn 32 start) exponent retries size (map (movedOn 32 start) (gather (contentionIn r) (rest (i + 1)))) step count (e .offset) left h) ∙ split)
+
+        pub pass-next : (left' : ℕ) → left' ≡ left - (next .offset - e .offset) / step → (next .offset - e .offset) / step ≤ left →
+            passing (map (movedOn 32 start) (gather (contentionIn r) (rest (i + 1)))) exponent left' retries size ≡ whole
+        pass-next left' so h = rw so (sym (passing-on (movedOn 32 start) exponent retries size (map (movedOn 32 start) (gather (contentionIn r) (rest (i + 1)))) step count (e .offset) left h) ∙ split)
+
+      -- an interval without contention opportunities
+      pub pass-none : (left' : ℕ) → left' ≡ left → step ≡ 0 → passing (map (movedOn 32 start) (gather (contentionIn r) (rest (i + 1)))) exponent left' retries size ≡ whole
+      pass-none left' so z =
+          let none : (elementAt s (i + 1) .offset - e .offset) / step ≡ 0 = rw z (div-zero (elementAt s (i + 1) .offset - e .offset)) in
+          pass-next (elementAt s (i + 1)) refl left' (rw none (so ∙ sym (sub-zero left))) (omega (arith, none))
 
   -- pendings
   module _ (σ : ℕ) where
@@ -255,14 +271,17 @@ module _ (s : List ℕ) (reading : Reading) (ok : readOf s ≡ Accepted reading)
     unfolding pendingsTo pendingFrom
     pending-begins i h = rw (h, accepted s reading ok .elements, after-null (elementAt s) (reading .n) (reading .null) (reading .length) (accepted s reading ok .frame)) refl
 
-module _ (σ r : ℕ) where
-  pub find-few : (start i : ℕ) (found found' : Found) (k : Interval) → found .bursts ≤ i → found' ≡ foundIn start σ r found (k ∷ []) → found' .bursts ≤ i + 1
+module _ (i : ℕ) (found found' : Found) (h : found .bursts ≤ i) where
+  pub find-few : (start σ r : ℕ) (k : Interval) (then : Found) → found' ≡ then → then ≡ foundIn start σ r found (k ∷ []) → found' .bursts ≤ i + 1
   unfolding foundIn
-  find-few start i found found' k h e = rw e (go (grants σ (k .sid) (k .iuc)))
+  find-few start σ r k then so e = rw (so ∙ e) (go (grants σ (k .sid) (k .iuc)))
     where
       go : (b : Bool) → found .bursts + length (cond b (k ∷ []) []) ≤ i + 1
       go true = omega arith
       go false = omega arith
+
+  pub find-same : found' ≡ found → found' .bursts ≤ i + 1
+  find-same so = rw so (omega arith)
 
 -- the ways to an interval's step
 module _ (r sid iuc : ℕ) where
@@ -294,7 +313,4 @@ module _ (r sid iuc : ℕ) where
   unfolding apart
   step-data h k l m = rw (h, le-leb 0x3FF1 sid k, le-leb sid 0x3FFE l, le-ltb (sid - 0x3FF0) r m) refl
 
-pub count-none : (length step : ℕ) → step ≡ 0 → 0 ≡ length / step
-count-none length step h = rw h (sym (div-zero length))
-
-pub ruleset scan-ways = (said, said-not, not-true, first-nothing, first-before, noted-other, noted-burst, noted-nothing, noted-short, noted-own, step-broadcast, step-request, step-other, step-below, step-above, step-small, step-data, count-none)
+pub ruleset scan-ways = (said, said-not, not-true, first-nothing, first-before, noted-other, noted-burst, noted-nothing, noted-short, noted-own, step-broadcast, step-request, step-other, step-below, step-above, step-small, step-data)

@@ -39,7 +39,7 @@ use Rattle.station.specs.Records.{badSize, badR, badPhase, recordFault}
 use Rattle.station.specs.Backoffs.{firstExponent, nextExponent, drawn}
 use Rattle.station.specs.Opportunities.{contention, own}
 use Rattle.station.specs.Scan.{firstOf, foundIn}
-use Rattle.station.specs.Steps.{granted, lost, acknowledged, deferred, passing, offeredOwn, sending, waitingSince, sentBy}
+use Rattle.station.specs.Steps.{waitingWith, granted, lost, acknowledged, deferred, passing, offeredOwn, sending, waitingSince, sentBy}
 use Rattle.station.specs.Hearing.{stale, hearFault, hasPending, readyPhase, quietPhase, phaseAfter, requestIn, burstsIn, takenIn, stationAfter, hearing, hearingOf, hearOf}
 use Rattle.station.specs.Offering.{fresh, setUpOf, idle, offerFault, wanting, offerOf}
 
@@ -135,6 +135,39 @@ module _ (sid channel count r : ℕ) where
 -- the number of opportunities to pass, worked out in 32 bits
 pub power-fits : (exponent : ℕ) → exponent ≤ 15 → 1 * 2 ^ exponent % 4294967296 ≡ 2 ^ exponent
 power-fits exponent h = let most : 2 ^ exponent ≤ 2 ^ 15 = pow-mono h in rw (one-mul (2 ^ exponent)) (mod-eq-of-lt (omega arith))
+
+-- a pending is asked for in Waiting alone
+module _ (b : Bool) (p : Phase) where
+  pub waiting-idle : p ≡ Idle → false ≡ waitingWith b p
+  unfolding waitingWith
+  waiting-idle e = rw e refl
+
+  pub waiting-wanting : (size : ℕ) → p ≡ Wanting size → false ≡ waitingWith b p
+  unfolding waitingWith
+  waiting-wanting size e = rw e refl
+
+  pub waiting-deferring : (exponent left retries size : ℕ) → p ≡ Deferring exponent left retries size → false ≡ waitingWith b p
+  unfolding waitingWith
+  waiting-deferring exponent left retries size e = rw e refl
+
+  pub waiting-waiting : (exponent retries : ℕ) (time : MiniSlot) (size : ℕ) (r : Bool) → p ≡ Waiting exponent retries time size → r ≡ b → r ≡ waitingWith b p
+  unfolding waitingWith
+  waiting-waiting exponent retries time size r e h = rw e h
+
+-- .. and changes nothing elsewhere
+granted-asked : (b : Bool) (p : Phase) → granted (waitingWith b p) p ≡ granted b p
+unfolding granted waitingWith
+granted-asked b Idle = refl
+granted-asked b (Wanting size) = refl
+granted-asked b (Deferring exponent left retries size) = refl
+granted-asked b (Waiting exponent retries time size) = refl
+
+acknowledged-asked : (w : ℕ) (b : Bool) (f : Fields) (draw : ℕ) (p : Phase) → acknowledged w (waitingWith b p) f draw p ≡ acknowledged w b f draw p
+unfolding acknowledged waitingWith
+acknowledged-asked w b f draw Idle = refl
+acknowledged-asked w b f draw (Wanting size) = refl
+acknowledged-asked w b f draw (Deferring exponent left retries size) = refl
+acknowledged-asked w b f draw (Waiting exponent retries time size) = refl
 
 module _ (b : Bool) (p : Phase) where
   pub granted-idle : p ≡ Idle → Idle ≡ granted b p
@@ -368,21 +401,21 @@ module _ (s : List ℕ) (reading : Reading) (ok : readOf s ≡ Accepted reading)
   unfolding foundIn own
   found-own = rw (is, accepted s reading ok .fields) refl
 
-  module _ (draw : ℕ) (waits : Bool) (pending : waits ≡ hasPending st (mapOf s)) where
+  module _ (draw : ℕ) (waits : Bool) (pending : waits ≡ waitingWith (hasPending st (mapOf s)) (st .phase)) where
     pub taken-granted : (q : Phase) → (found .bursts ≡ 0 → ⊥) → q ≡ granted waits (st .phase) → record { bursts = found .bursts; phase = q; request = sent.Nothing } ≡ takenIn st (mapOf s) draw
     unfolding phaseAfter requestIn
-    taken-granted q h g = rw (some (grantsTo (st .sid) (mapOf s .elements)) (λ z. h (found-bursts ∙ z)), g, pending, found-bursts) refl
+    taken-granted q h g = rw (some (grantsTo (st .sid) (mapOf s .elements)) (λ z. h (found-bursts ∙ z)), g, pending, granted-asked (hasPending st (mapOf s)) (st .phase), found-bursts) refl
 
     pub taken-quiet : (p ready after : Phase) (request : Sent) → found .bursts ≡ 0 → p ≡ acknowledged 32 waits (reading .fields) draw (st .phase) → ready ≡ deferred (reading .fields) draw p →
         after ≡ sending (own (st .sid) (st .r) (mapOf s)) (contention (st .r) (mapOf s)) ready → request ≡ sentBy ready after →
         record { bursts = 0; phase = after; request = request } ≡ takenIn st (mapOf s) draw
     unfolding phaseAfter requestIn quietPhase readyPhase
     taken-quiet p ready after request h a d e r =
-        rw (none (grantsTo (st .sid) (mapOf s .elements)) (sym found-bursts ∙ h), sym found-bursts ∙ h, r, e, d, a, pending, accepted s reading ok .fields) refl
+        rw (none (grantsTo (st .sid) (mapOf s .elements)) (sym found-bursts ∙ h), sym found-bursts ∙ h, r, e, d, a, pending, acknowledged-asked 32 (hasPending st (mapOf s)) (reading .fields) draw (st .phase), accepted s reading ok .fields) refl
 
 pub ruleset record-ways = (said, said-not, not-true, bad-idle, bad-wanting, bad-deferring, bad-waiting, busy-idle, busy-wanting, busy-deferring, busy-waiting, record-6, record-r, record-phase, record-good, offer-record, offer-16, offer-17, offer-good, offer-refused, offer-taken, set-up-6, set-up-17, set-up-ready)
 
-pub ruleset step-ways = (said, said-not, not-true, granted-idle, granted-wanting, granted-deferring, granted-pending, granted-waiting, lost-dropped, lost-again, acknowledged-idle, acknowledged-wanting, acknowledged-deferring, acknowledged-pending, acknowledged-lost, acknowledged-waiting, deferred-idle, deferred-wanting, deferred-deferring, deferred-waiting)
+pub ruleset step-ways = (said, said-not, not-true, waiting-idle, waiting-wanting, waiting-deferring, waiting-waiting, granted-idle, granted-wanting, granted-deferring, granted-pending, granted-waiting, lost-dropped, lost-again, acknowledged-idle, acknowledged-wanting, acknowledged-deferring, acknowledged-pending, acknowledged-lost, acknowledged-waiting, deferred-idle, deferred-wanting, deferred-deferring, deferred-waiting)
 
 pub ruleset send-ways = (sending-idle, sending-wanting, sending-waiting, sending-own, sending-contention, since-idle, since-wanting, since-deferring, since-waiting, sent-idle, sent-wanting, sent-deferring, sent-waiting)
 

@@ -1,6 +1,6 @@
 -- Document 01, "The station": the four steps of an accepted MAP.
 use Prim.Native.Nat.{ℕ, zero, suc, _+_}
-use mathlib.Core.Bool.{Bool, cond}
+use mathlib.Core.Bool.{Bool, false, cond}
 use mathlib.Core.List.{List, [], _∷_}
 use lib.Dec.{ltb}
 use Rattle.slots.specs.Time.{earlier}
@@ -10,6 +10,13 @@ use Rattle.station.specs.declared.record.Phase.the-variants.{Idle, Wanti
 use Rattle.station.specs.declared.record.Sent.{Sent}
 use Rattle.station.specs.declared.record.Sent.the-variants.{Nothing, At}
 use Rattle.station.specs.Backoffs.{firstExponent, nextExponent, drawn}
+
+-- "Waiting with a pending"; "pendings in other states are ignored"
+unfoldable pub waitingWith : Bool → Phase → Bool
+waitingWith pending Idle = false
+waitingWith pending (Wanting size) = false
+waitingWith pending (Deferring exponent left retries size) = false
+waitingWith pending (Waiting exponent retries time size) = pending
 
 -- 1. There is a grant: "any state becomes Idle, except Waiting with a pending for the SID in the same MAP, which stays as it is. Then the MAP is done with."
 unfoldable pub granted : Bool → Phase → Phase

@@ -6,7 +6,7 @@ ghost use Rattle.message.specs.Reading.{readOf, mapOf};
 ghost use Rattle.message.specs.declared.reading.Verdict.the-variants.{Accepted};
 ghost use Rattle.station.specs.Hearing.{stale, hearFault, takenIn, hearing, hearingOf, hearOf};
 use crate::opportunity::find;
-use crate::opportunity::pending;
+use crate::opportunity::waiting_with_pending;
 use crate::record::Answer;
 use crate::record::Hearing;
 use crate::record::Phase;
@@ -147,10 +147,10 @@ fn take(st: Station, bytes: &[u8], reading: Reading, draw: u16) -> Taken
     ensures { λ r. ⌜ r ≡ takenIn st (mapOf (now (bytes .entry))) draw ⌝ }
 {
     let found = find(bytes, reading, st.sid, st.r);
-    let waits = pending(bytes, reading, st.sid);
     let fields = reading.fields;
     let own = found.own;
     let phase = st.phase;
+    let waits = waiting_with_pending(bytes, reading, st.sid, phase);
     if found.bursts != 0 {
         return Taken {
             bursts: found.bursts,

@@ -1,5 +1,6 @@
-// What a MAP's elements hold for a station. Each is looked at once; where a station defers, whole
-// intervals are passed at once, however many opportunities they give.
+// What a MAP's elements hold for a station. They are gone through once, and an interval's end is
+// looked for only where it may be the station's; where a station defers, whole intervals are passed
+// at once, however many opportunities they give.
 ghost use mathlib.Core.Path.{_≡_};
 ghost use mathlib.Core.Bool.{not};
 ghost use mathlib.Core.List.{[], _∷_};
@@ -10,7 +11,7 @@ ghost use Rattle.message.specs.Reading.{readOf, mapOf};
 ghost use Rattle.message.specs.declared.reading.Verdict.the-variants.{Accepted};
 ghost use Rattle.station.specs.Opportunities.{contention};
 ghost use Rattle.station.specs.Scan.{firstOf, grants, foundIn, apart};
-ghost use Rattle.station.specs.Steps.{passing};
+ghost use Rattle.station.specs.Steps.{waitingWith, passing};
 use crate::record::Phase;
 use crate::record::Sent;
 use message::Element;
@@ -72,15 +73,16 @@ pub(crate) fn find(bytes: &[u8], reading: Reading, sid: u32, r: u32) -> Found
         bursts: 0,
         own: Sent::Nothing,
     };
-    let mut e = Element::at(bytes, 0);
     let mut i: u32 = 0;
     let out = loop {
         if reading.null <= i {
             break found;
         }
-        let next = Element::at(bytes, (i + 1) as usize);
-        found = noted(found, e, next.offset - e.offset, start, sid, r);
-        e = next;
+        let e = Element::at(bytes, i as usize);
+        if e.sid == sid {
+            let next = Element::at(bytes, (i + 1) as usize);
+            found = noted(found, e, next.offset - e.offset, start, sid, r);
+        }
         i += 1;
     };
     out
@@ -93,7 +95,7 @@ fn granted_to(e: Element, sid: u32) -> bool
 }
 
 // Whether a pending for the SID follows the Null.
-pub(crate) fn pending(bytes: &[u8], reading: Reading, sid: u32) -> bool
+fn pending(bytes: &[u8], reading: Reading, sid: u32) -> bool
     requires { ⌜ readOf (now bytes) ≡ Accepted reading ⌝ }
     ensures { λ r. ⌜ r ≡ not (isEmpty (pendingsTo sid (mapOf (now (bytes .entry)) .elements))) ⌝ }
 {
@@ -108,6 +110,29 @@ pub(crate) fn pending(bytes: &[u8], reading: Reading, sid: u32) -> bool
         i += 1;
     };
     out
+}
+
+// "Waiting with a pending": only a station that waits asks for one.
+pub(crate) fn waiting_with_pending(bytes: &[u8], reading: Reading, sid: u32, phase: Phase) -> bool
+    requires { ⌜ readOf (now bytes) ≡ Accepted reading ⌝ }
+    ensures { λ r. ⌜ r ≡ waitingWith (not (isEmpty (pendingsTo sid (mapOf (now (bytes .entry)) .elements)))) phase ⌝ }
+{
+    match phase {
+        Phase::Idle => false,
+        Phase::Wanting { size } => false,
+        Phase::Deferring {
+            exponent,
+            left,
+            retries,
+            size,
+        } => false,
+        Phase::Waiting {
+            exponent,
+            retries,
+            time,
+            size,
+        } => pending(bytes, reading, sid),
+    }
 }
 
 fn step_of(e: Element, r: u32) -> u32
@@ -132,15 +157,6 @@ fn step_of(e: Element, r: u32) -> u32
         return 0;
     }
     e.sid - 0x3FF0
-}
-
-fn count_of(length: u32, step: u32) -> u32
-    ensures { λ r. ⌜ r ≡ length / step ⌝ }
-{
-    if step == 0 {
-        return 0;
-    }
-    length / step
 }
 
 // "Sending makes it Waiting, request time the opportunity's first mini-slot."
@@ -171,7 +187,6 @@ pub(crate) fn pass(
     let fields = reading.fields;
     let start = fields.start;
     let mut left = left;
-    let mut e = Element::at(bytes, 0);
     let mut i: u32 = 0;
     let out = loop {
         if reading.null <= i {
@@ -182,19 +197,21 @@ pub(crate) fn pass(
                 size,
             };
         }
-        let next = Element::at(bytes, (i + 1) as usize);
+        let e = Element::at(bytes, i as usize);
         let step = step_of(e, r);
-        let count = count_of(next.offset - e.offset, step);
-        if left < count {
-            break sent_at(
-                exponent,
-                retries,
-                start.moved_on(e.offset + left * step),
-                size,
-            );
+        if step != 0 {
+            let next = Element::at(bytes, (i + 1) as usize);
+            let count = (next.offset - e.offset) / step;
+            if left < count {
+                break sent_at(
+                    exponent,
+                    retries,
+                    start.moved_on(e.offset + left * step),
+                    size,
+                );
+            }
+            left -= count;
         }
-        left -= count;
-        e = next;
         i += 1;
     };
     out

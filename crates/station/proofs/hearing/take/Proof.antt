@@ -6,8 +6,8 @@ use Rattle.station.proofs.hearing.take.Tie as tie
 find-requires : tie.Need-find-requires
 find-requires c κs = search needs
 
-pending-requires : tie.Need-pending-requires
-pending-requires c κs = search needs
+waiting-with-pending-requires : tie.Need-waiting-with-pending-requires
+waiting-with-pending-requires c κs = search needs
 
 after-grant-requires : tie.Need-after-grant-requires
 after-grant-requires c κs = search needs
@@ -35,7 +35,7 @@ take-spec =
     tie.close
     (tie.spec
     find-requires
-    pending-requires
+    waiting-with-pending-requires
     after-grant-requires
     returns
     after-ack-requires

@@ -1,4 +1,4 @@
-use Rattle.station.proofs.Scanning.{null-early, rises-on, find-begins, find-end, find-next, find-few}
+use Rattle.station.proofs.Scanning.{null-early, rises-on, find-begins, find-end, find-next, find-other, find-few, find-same}
 use Rattle.message.specs.Lists.{listed}
 use Rattle.station.specs.Scan.{foundIn}
 use Rattle.station.specs.declared.record.Sent.the-variants.{Nothing}
@@ -7,30 +7,34 @@ use Rattle.message.specs.Map.{intervals}
 use Rattle.message.specs.Element.{elementAt}
 use Prim.Native.Nat.{_-_, _≤_, _<_}
 use mathlib.Core.Path.{_≡_}
+use mathlib.Core.Logic.{⊎-elim}
 use borrow.Author.Needs.{needs}
 use Rattle.station.proofs.opportunity.find.Statement.{statement}
 use Rattle.station.proofs.opportunity.find.Tie as tie
 
 abbrev Inv-loop : tie.InvT-loop
-Inv-loop bytes reading sid r start found₀ e₀ i₀ found e i =
-    (reading .null < 240) × (i ≤ reading .null) × (e ≡ elementAt bytes i) × (found .bursts ≤ i)
+Inv-loop bytes reading sid r start found₀ i₀ found i =
+    (reading .null < 240) × (i ≤ reading .null) × (found .bursts ≤ i)
     × (foundIn (reading .fields .start .0) sid r found (intervals (listed (elementAt bytes) i (reading .n - i)))
     ≡ foundIn (reading .fields .start .0) sid r (record { bursts = 0; own = Nothing }) (intervals (mapOf bytes .elements)))
 
 abbrev μ-loop : tie.MeasureT-loop
-μ-loop bytes reading sid r start found₀ e₀ i₀ found e i = reading .null - i
+μ-loop bytes reading sid r start found₀ i₀ found i = reading .null - i
+
+loop-holds : tie.Need-loop-holds Inv-loop μ-loop
+loop-holds c = (search null-early, search needs, search needs, search find-begins)
+
+cast-at : tie.Need-cast-at Inv-loop μ-loop
+cast-at c = search needs
 
 at-requires : tie.Need-at-requires Inv-loop μ-loop
 at-requires c κs = search needs
 
-loop-holds : tie.Need-loop-holds Inv-loop μ-loop
-loop-holds c = (search null-early, search needs, search needs, search needs, search find-begins)
-
 add-at : tie.Need-add-at Inv-loop μ-loop
 add-at c = search needs
 
-cast-at : tie.Need-cast-at Inv-loop μ-loop
-cast-at c = search needs
+cast-at-2 : tie.Need-cast-at-2 Inv-loop μ-loop
+cast-at-2 c = search needs
 
 at-requires-2 : tie.Need-at-requires-2 Inv-loop μ-loop
 at-requires-2 c κs = search needs
@@ -48,7 +52,19 @@ loop-less : tie.Need-loop-less Inv-loop μ-loop
 loop-less c = search needs
 
 loop-again : tie.Need-loop-again Inv-loop μ-loop
-loop-again c = (search needs, search needs, search needs, search find-few, search find-next)
+loop-again c =
+    let here = c .before .before .before .before .before in
+    let ok = here .before .before .before .before .pre in
+    let is = c .before .before .at .ensures in
+    let left = here .loop .inv .3 in (
+      search needs,
+      search needs,
+      ⊎-elim (λ w. search find-few) (λ w. search find-same) (c .if2 .came),
+      ⊎-elim
+          (λ w. find-next _ _ ok _ _ _ _ _ _ _ _ (search needs) is left _ _ (w .5) (w .1 .ensures) (w .4 .ensures))
+          (λ w. find-other _ _ ok _ _ _ _ _ _ _ _ (search needs) is left (w .1) (w .0 .left))
+          (c .if2 .came),
+    )
 
 returns : tie.Need-returns Inv-loop μ-loop
 returns c = search find-end
@@ -59,10 +75,11 @@ find-spec =
     (tie.spec
     Inv-loop
     μ-loop
-    at-requires
     loop-holds
-    add-at
     cast-at
+    at-requires
+    add-at
+    cast-at-2
     at-requires-2
     sub-noted
     noted-requires

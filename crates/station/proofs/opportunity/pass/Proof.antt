@@ -1,4 +1,4 @@
-use Rattle.station.proofs.Scanning.{null-early, rises-on, place-fits, place-after-fits, pass-begins, pass-end, pass-next, pass-sends}
+use Rattle.station.proofs.Scanning.{null-early, rises-on, place-fits, place-after-fits, pass-begins, pass-end, pass-next, pass-none, pass-sends}
 use Rattle.station.specs.Steps.{passing}
 use Rattle.station.specs.Opportunities.{contentionIn, contention}
 use Rattle.message.specs.Reading.{mapOf}
@@ -10,42 +10,46 @@ use Rattle.slots.specs.Time.{movedOn}
 use Prim.Native.Nat.{_-_, _≤_, _<_}
 use mathlib.Core.List.{map}
 use mathlib.Core.Path.{_≡_}
+use mathlib.Core.Logic.{⊎-elim}
 use borrow.Author.Needs.{needs}
 use Rattle.station.proofs.opportunity.pass.Statement.{statement}
 use Rattle.station.proofs.opportunity.pass.Tie as tie
 
 abbrev Inv-loop : tie.InvT-loop
-Inv-loop bytes reading r exponent left retries size start left₀ e₀ i₀ left' e i =
-    (reading .null < 240) × (i ≤ reading .null) × (e ≡ elementAt bytes i)
+Inv-loop bytes reading r exponent left retries size start left₀ i₀ left' i =
+    (reading .null < 240) × (i ≤ reading .null)
     × (passing (map (movedOn 32 (start .0)) (gather (contentionIn r) (intervals (listed (elementAt bytes) i (reading .n - i))))) exponent left' retries size
     ≡ passing (contention r (mapOf bytes)) exponent left retries size)
 
 abbrev μ-loop : tie.MeasureT-loop
-μ-loop bytes reading r exponent left retries size start left₀ e₀ i₀ left' e i = reading .null - i
-
-at-requires : tie.Need-at-requires Inv-loop μ-loop
-at-requires c κs = search needs
+μ-loop bytes reading r exponent left retries size start left₀ i₀ left' i = reading .null - i
 
 loop-holds : tie.Need-loop-holds Inv-loop μ-loop
-loop-holds c = (search null-early, search needs, search needs, search pass-begins)
-
-add-at : tie.Need-add-at Inv-loop μ-loop
-add-at c = search needs
+loop-holds c = (search null-early, search needs, search pass-begins)
 
 cast-at : tie.Need-cast-at Inv-loop μ-loop
 cast-at c = search needs
 
-at-requires-2 : tie.Need-at-requires-2 Inv-loop μ-loop
-at-requires-2 c κs = search needs
+at-requires : tie.Need-at-requires Inv-loop μ-loop
+at-requires c κs = search needs
 
 step-of-requires : tie.Need-step-of-requires Inv-loop μ-loop
 step-of-requires c κs = search needs
 
-sub-count-of : tie.Need-sub-count-of Inv-loop μ-loop
-sub-count-of c = search rises-on
+add-at : tie.Need-add-at Inv-loop μ-loop
+add-at c = search needs
 
-count-of-requires : tie.Need-count-of-requires Inv-loop μ-loop
-count-of-requires c κs = search needs
+cast-at-2 : tie.Need-cast-at-2 Inv-loop μ-loop
+cast-at-2 c = search needs
+
+at-requires-2 : tie.Need-at-requires-2 Inv-loop μ-loop
+at-requires-2 c κs = search needs
+
+sub-count : tie.Need-sub-count Inv-loop μ-loop
+sub-count c = search rises-on
+
+div-count : tie.Need-div-count Inv-loop μ-loop
+div-count c = search needs
 
 mul-moved-on : tie.Need-mul-moved-on Inv-loop μ-loop
 mul-moved-on c = record { fits = search place-fits }
@@ -66,7 +70,7 @@ loop-less : tie.Need-loop-less Inv-loop μ-loop
 loop-less c = search needs
 
 loop-again : tie.Need-loop-again Inv-loop μ-loop
-loop-again c = (search needs, search needs, search needs, search pass-next)
+loop-again c = (search needs, search needs, ⊎-elim (λ w. search pass-next) (λ w. search pass-none) (c .if2 .came))
 
 returns : tie.Need-returns Inv-loop μ-loop
 returns c = search pass-end
@@ -80,14 +84,15 @@ pass-spec =
     (tie.spec
     Inv-loop
     μ-loop
-    at-requires
     loop-holds
-    add-at
     cast-at
-    at-requires-2
+    at-requires
     step-of-requires
-    sub-count-of
-    count-of-requires
+    add-at
+    cast-at-2
+    at-requires-2
+    sub-count
+    div-count
     mul-moved-on
     add-moved-on
     moved-on-requires
