@@ -3,6 +3,10 @@ use mathlib.Core.Path.{_≡_, refl, sym, _∙_}
 use mathlib.Core.Bool.{Bool, true, false, not, _||_}
 use Prim.Native.Nat.{ℕ, _+_, _*_, _%_, _^_, _≤_, _<_}
 use mathlib.Core.List.{List, [], _∷_}
+use mathlib.Core.Logic.{_⊎_, inl, inr}
+use types.Run.{OneOf}
+use denote.Enum.Declared
+use Rattle.station.proofs.record.Phase as phase
 use native.Mathlib.Nat.{mod-eq-of-lt, one-mul, zero-add}
 use lib.ListN.{length}
 use lib.Pow.{pow-mono}
@@ -43,6 +47,23 @@ use Rattle.station.specs.Steps.{waitingWith, granted, lost, acknowledged
 use Rattle.station.specs.Hearing.{stale, hearFault, hasPending, readyPhase, quietPhase, phaseAfter, requestIn, burstsIn, takenIn, stationAfter, hearing, hearingOf, hearOf}
 use Rattle.station.specs.Offering.{fresh, setUpOf, idle, offerFault, wanting, offerOf}
 
+abbrev tag : Phase → ℕ
+tag p = Declared.tagOf phase.the-type p
+
+-- an arm `_` is told that the tag is one of those that no other arm names
+module _ (P : Phase → Type 0) where
+  not-waiting : P Idle → ((size : ℕ) → P (Wanting size)) → ((exponent left retries size : ℕ) → P (Deferring exponent left retries size)) → (p : Phase) → OneOf (0 ∷ 1 ∷ 2 ∷ []) (tag p) → P p
+  not-waiting a b c Idle h = a
+  not-waiting a b c (Wanting size) h = b size
+  not-waiting a b c (Deferring exponent left retries size) h = c exponent left retries size
+  not-waiting a b c (Waiting exponent retries time size) h = absurd (elim h [ inl e ↦ omega arith | inr h ↦ elim h [ inl e ↦ omega arith | inr e ↦ omega arith ] ])
+
+  not-deferring : P Idle → ((size : ℕ) → P (Wanting size)) → ((exponent retries : ℕ) (time : MiniSlot) (size : ℕ) → P (Waiting exponent retries time size)) → (p : Phase) → OneOf (0 ∷ 1 ∷ 3 ∷ []) (tag p) → P p
+  not-deferring a b c Idle h = a
+  not-deferring a b c (Wanting size) h = b size
+  not-deferring a b c (Deferring exponent left retries size) h = absurd (elim h [ inl e ↦ omega arith | inr h ↦ elim h [ inl e ↦ omega arith | inr e ↦ omega arith ] ])
+  not-deferring a b c (Waiting exponent retries time size) h = c exponent retries time size
+
 module _ (p : Phase) where
   pub bad-idle : p ≡ Idle → false ≡ badPhase p
   unfolding badPhase
@@ -64,17 +85,15 @@ module _ (p : Phase) where
   unfolding idle
   busy-idle e = rw e refl
 
-  pub busy-wanting : (size : ℕ) → p ≡ Wanting size → true ≡ not (idle p)
+  pub busy-other : OneOf (1 ∷ 2 ∷ 3 ∷ []) (tag p) → true ≡ not (idle p)
   unfolding idle
-  busy-wanting size e = rw e refl
-
-  pub busy-deferring : (exponent left retries size : ℕ) → p ≡ Deferring exponent left retries size → true ≡ not (idle p)
-  unfolding idle
-  busy-deferring exponent left retries size e = rw e refl
-
-  pub busy-waiting : (exponent retries : ℕ) (time : MiniSlot) (size : ℕ) → p ≡ Waiting exponent retries time size → true ≡ not (idle p)
-  unfolding idle
-  busy-waiting exponent retries time size e = rw e refl
+  busy-other h = go p h
+    where
+      go : (q : Phase) → OneOf (1 ∷ 2 ∷ 3 ∷ []) (tag q) → true ≡ not (idle q)
+      go Idle h = absurd (elim h [ inl e ↦ omega arith | inr h ↦ elim h [ inl e ↦ omega arith | inr e ↦ omega arith ] ])
+      go (Wanting size) h = refl
+      go (Deferring exponent left retries size) h = refl
+      go (Waiting exponent retries time size) h = refl
 
 module _ (st : Station) where
   pub record-6 : not (unicast (st .sid)) ≡ true → 6 ≡ recordFault st
@@ -138,17 +157,9 @@ power-fits exponent h = let most : 2 ^ exponent ≤ 2 ^ 15 = pow-mono h in rw (o
 
 -- a pending is asked for in Waiting alone
 module _ (b : Bool) (p : Phase) where
-  pub waiting-idle : p ≡ Idle → false ≡ waitingWith b p
+  pub waiting-other : OneOf (0 ∷ 1 ∷ 2 ∷ []) (tag p) → false ≡ waitingWith b p
   unfolding waitingWith
-  waiting-idle e = rw e refl
-
-  pub waiting-wanting : (size : ℕ) → p ≡ Wanting size → false ≡ waitingWith b p
-  unfolding waitingWith
-  waiting-wanting size e = rw e refl
-
-  pub waiting-deferring : (exponent left retries size : ℕ) → p ≡ Deferring exponent left retries size → false ≡ waitingWith b p
-  unfolding waitingWith
-  waiting-deferring exponent left retries size e = rw e refl
+  waiting-other h = not-waiting (λ q. false ≡ waitingWith b q) refl (λ size. refl) (λ exponent left retries size. refl) p h
 
   pub waiting-waiting : (exponent retries : ℕ) (time : MiniSlot) (size : ℕ) (r : Bool) → p ≡ Waiting exponent retries time size → r ≡ b → r ≡ waitingWith b p
   unfolding waitingWith
@@ -170,17 +181,9 @@ acknowledged-asked w b f draw (Deferring exponent left retries size) = refl
 acknowledged-asked w b f draw (Waiting exponent retries time size) = refl
 
 module _ (b : Bool) (p : Phase) where
-  pub granted-idle : p ≡ Idle → Idle ≡ granted b p
+  pub granted-other : OneOf (0 ∷ 1 ∷ 2 ∷ []) (tag p) → Idle ≡ granted b p
   unfolding granted
-  granted-idle e = rw e refl
-
-  pub granted-wanting : (size : ℕ) → p ≡ Wanting size → Idle ≡ granted b p
-  unfolding granted
-  granted-wanting size e = rw e refl
-
-  pub granted-deferring : (exponent left retries size : ℕ) → p ≡ Deferring exponent left retries size → Idle ≡ granted b p
-  unfolding granted
-  granted-deferring exponent left retries size e = rw e refl
+  granted-other h = not-waiting (λ q. Idle ≡ granted b q) refl (λ size. refl) (λ exponent left retries size. refl) p h
 
   module _ (exponent retries : ℕ) (time : MiniSlot) (size : ℕ) (is : p ≡ Waiting exponent retries time size) where
     pub granted-pending : b ≡ true → Waiting exponent retries time size ≡ granted b p
@@ -201,17 +204,9 @@ module _ (f : Fields) (draw exponent retries size : ℕ) where
   lost-again next left h n l = rw (le-ltb 16 (retries + 1) (omega arith), l, n) refl
 
 module _ (w : ℕ) (b : Bool) (f : Fields) (draw : ℕ) (p : Phase) where
-  pub acknowledged-idle : p ≡ Idle → p ≡ acknowledged w b f draw p
+  pub acknowledged-other : OneOf (0 ∷ 1 ∷ 2 ∷ []) (tag p) → p ≡ acknowledged w b f draw p
   unfolding acknowledged
-  acknowledged-idle e = rw e refl
-
-  pub acknowledged-wanting : (size : ℕ) → p ≡ Wanting size → Wanting size ≡ acknowledged w b f draw p
-  unfolding acknowledged
-  acknowledged-wanting size e = rw e refl
-
-  pub acknowledged-deferring : (exponent left retries size : ℕ) → p ≡ Deferring exponent left retries size → Deferring exponent left retries size ≡ acknowledged w b f draw p
-  unfolding acknowledged
-  acknowledged-deferring exponent left retries size e = rw e refl
+  acknowledged-other h = not-waiting (λ q. q ≡ acknowledged w b f draw q) refl (λ size. refl) (λ exponent left retries size. refl) p h
 
   module _ (exponent retries : ℕ) (time : MiniSlot) (size : ℕ) (is : p ≡ Waiting exponent retries time size) where
     pub acknowledged-pending : b ≡ true → Waiting exponent retries time size ≡ acknowledged w b f draw p
@@ -227,35 +222,25 @@ module _ (w : ℕ) (b : Bool) (f : Fields) (draw : ℕ) (p : Phase) where
     acknowledged-waiting h e = rw (is, h, e) refl
 
 module _ (f : Fields) (draw : ℕ) (p : Phase) where
-  pub deferred-idle : p ≡ Idle → p ≡ deferred f draw p
-  unfolding deferred
-  deferred-idle e = rw e refl
-
   pub deferred-wanting : (size left : ℕ) → p ≡ Wanting size → left ≡ drawn draw (firstExponent f) → Deferring (firstExponent f) left 0 size ≡ deferred f draw p
   unfolding deferred
   deferred-wanting size left e l = rw (e, l) refl
 
-  pub deferred-deferring : (exponent left retries size : ℕ) → p ≡ Deferring exponent left retries size → Deferring exponent left retries size ≡ deferred f draw p
+  pub deferred-other : OneOf (0 ∷ 2 ∷ 3 ∷ []) (tag p) → p ≡ deferred f draw p
   unfolding deferred
-  deferred-deferring exponent left retries size e = rw e refl
-
-  pub deferred-waiting : (exponent retries : ℕ) (time : MiniSlot) (size : ℕ) → p ≡ Waiting exponent retries time size → Waiting exponent retries time size ≡ deferred f draw p
-  unfolding deferred
-  deferred-waiting exponent retries time size e = rw e refl
+  deferred-other h = go p h
+    where
+      go : (q : Phase) → OneOf (0 ∷ 2 ∷ 3 ∷ []) (tag q) → q ≡ deferred f draw q
+      go Idle h = refl
+      go (Wanting size) h = absurd (elim h [ inl e ↦ omega arith | inr h ↦ elim h [ inl e ↦ omega arith | inr e ↦ omega arith ] ])
+      go (Deferring exponent left retries size) h = refl
+      go (Waiting exponent retries time size) h = refl
 
 -- step 4, by the first of the own Requests
 module _ (os cs : List ℕ) (p : Phase) (first : Sent) where
-  pub sending-idle : p ≡ Idle → p ≡ sending os cs p
+  pub sending-other : OneOf (0 ∷ 1 ∷ 3 ∷ []) (tag p) → p ≡ sending os cs p
   unfolding sending
-  sending-idle e = rw e refl
-
-  pub sending-wanting : (size : ℕ) → p ≡ Wanting size → Wanting size ≡ sending os cs p
-  unfolding sending
-  sending-wanting size e = rw e refl
-
-  pub sending-waiting : (exponent retries : ℕ) (time : MiniSlot) (size : ℕ) → p ≡ Waiting exponent retries time size → Waiting exponent retries time size ≡ sending os cs p
-  unfolding sending
-  sending-waiting exponent retries time size e = rw e refl
+  sending-other h = not-deferring (λ q. q ≡ sending os cs q) refl (λ size. refl) (λ exponent retries time size. refl) p h
 
   module _ (exponent left retries size : ℕ) (is : p ≡ Deferring exponent left retries size) (of : first ≡ firstOf sent.Nothing os) where
     pub sending-own : (q : Phase) (time : MiniSlot) → first ≡ sent.At time → q ≡ Waiting exponent retries time size → q ≡ sending os cs p
@@ -275,38 +260,22 @@ module _ (os cs : List ℕ) (p : Phase) (first : Sent) where
         go (t ∷ ts) h = let z : _≡_ {A = ℕ} 0 1 = cc in absurd (omega arith)
 
 module _ (p : Phase) where
-  pub since-idle : p ≡ Idle → sent.Nothing ≡ waitingSince p
+  pub since-other : OneOf (0 ∷ 1 ∷ 2 ∷ []) (tag p) → sent.Nothing ≡ waitingSince p
   unfolding waitingSince
-  since-idle e = rw e refl
-
-  pub since-wanting : (size : ℕ) → p ≡ Wanting size → sent.Nothing ≡ waitingSince p
-  unfolding waitingSince
-  since-wanting size e = rw e refl
-
-  pub since-deferring : (exponent left retries size : ℕ) → p ≡ Deferring exponent left retries size → sent.Nothing ≡ waitingSince p
-  unfolding waitingSince
-  since-deferring exponent left retries size e = rw e refl
+  since-other h = not-waiting (λ q. sent.Nothing ≡ waitingSince q) refl (λ size. refl) (λ exponent left retries size. refl) p h
 
   pub since-waiting : (exponent retries : ℕ) (time : MiniSlot) (size : ℕ) → p ≡ Waiting exponent retries time size → sent.At time ≡ waitingSince p
   unfolding waitingSince
   since-waiting exponent retries time size e = rw e refl
 
   module _ (after : Phase) where
-    pub sent-idle : p ≡ Idle → sent.Nothing ≡ sentBy p after
+    pub sent-other : OneOf (0 ∷ 1 ∷ 3 ∷ []) (tag p) → sent.Nothing ≡ sentBy p after
     unfolding sentBy
-    sent-idle e = rw e refl
-
-    pub sent-wanting : (size : ℕ) → p ≡ Wanting size → sent.Nothing ≡ sentBy p after
-    unfolding sentBy
-    sent-wanting size e = rw e refl
+    sent-other h = not-deferring (λ q. sent.Nothing ≡ sentBy q after) refl (λ size. refl) (λ exponent retries time size. refl) p h
 
     pub sent-deferring : (exponent left retries size : ℕ) (s : Sent) → p ≡ Deferring exponent left retries size → s ≡ waitingSince after → s ≡ sentBy p after
     unfolding sentBy
     sent-deferring exponent left retries size s e h = rw e h
-
-    pub sent-waiting : (exponent retries : ℕ) (time : MiniSlot) (size : ℕ) → p ≡ Waiting exponent retries time size → sent.Nothing ≡ sentBy p after
-    unfolding sentBy
-    sent-waiting exponent retries time size e = rw e refl
 
 module _ (end : Remembered) (start : ℕ) where
   pub stale-never : end ≡ Nothing → false ≡ stale 32 end start
@@ -413,10 +382,10 @@ module _ (s : List ℕ) (reading : Reading) (ok : readOf s ≡ Accepted reading)
     taken-quiet p ready after request h a d e r =
         rw (none (grantsTo (st .sid) (mapOf s .elements)) (sym found-bursts ∙ h), sym found-bursts ∙ h, r, e, d, a, pending, acknowledged-asked 32 (hasPending st (mapOf s)) (reading .fields) draw (st .phase), accepted s reading ok .fields) refl
 
-pub ruleset record-ways = (said, said-not, not-true, bad-idle, bad-wanting, bad-deferring, bad-waiting, busy-idle, busy-wanting, busy-deferring, busy-waiting, record-6, record-r, record-phase, record-good, offer-record, offer-16, offer-17, offer-good, offer-refused, offer-taken, set-up-6, set-up-17, set-up-ready)
+pub ruleset record-ways = (said, said-not, not-true, bad-idle, bad-wanting, bad-deferring, bad-waiting, busy-idle, busy-other, record-6, record-r, record-phase, record-good, offer-record, offer-16, offer-17, offer-good, offer-refused, offer-taken, set-up-6, set-up-17, set-up-ready)
 
-pub ruleset step-ways = (said, said-not, not-true, waiting-idle, waiting-wanting, waiting-deferring, waiting-waiting, granted-idle, granted-wanting, granted-deferring, granted-pending, granted-waiting, lost-dropped, lost-again, acknowledged-idle, acknowledged-wanting, acknowledged-deferring, acknowledged-pending, acknowledged-lost, acknowledged-waiting, deferred-idle, deferred-wanting, deferred-deferring, deferred-waiting)
+pub ruleset step-ways = (said, said-not, not-true, waiting-other, waiting-waiting, granted-other, granted-pending, granted-waiting, lost-dropped, lost-again, acknowledged-other, acknowledged-pending, acknowledged-lost, acknowledged-waiting, deferred-wanting, deferred-other)
 
-pub ruleset send-ways = (sending-idle, sending-wanting, sending-waiting, sending-own, sending-contention, since-idle, since-wanting, since-deferring, since-waiting, sent-idle, sent-wanting, sent-deferring, sent-waiting)
+pub ruleset send-ways = (sending-other, sending-own, sending-contention, since-other, since-waiting, sent-other, sent-deferring)
 
 pub ruleset hear-ways = (said, said-not, not-true, stale-never, stale-end, hear-12, hear-13, hear-14, hear-15, hear-good)

@@ -73,19 +73,7 @@ fn busy(phase: Phase) -> bool
 {
     match phase {
         Phase::Idle => false,
-        Phase::Wanting { size } => true,
-        Phase::Deferring {
-            exponent,
-            left,
-            retries,
-            size,
-        } => true,
-        Phase::Waiting {
-            exponent,
-            retries,
-            time,
-            size,
-        } => true,
+        _ => true,
     }
 }
 

@@ -118,20 +118,13 @@ pub(crate) fn waiting_with_pending(bytes: &[u8], reading: Reading, sid: u32, pha
     ensures { λ r. ⌜ r ≡ waitingWith (not (isEmpty (pendingsTo sid (mapOf (now (bytes .entry)) .elements)))) phase ⌝ }
 {
     match phase {
-        Phase::Idle => false,
-        Phase::Wanting { size } => false,
-        Phase::Deferring {
-            exponent,
-            left,
-            retries,
-            size,
-        } => false,
         Phase::Waiting {
             exponent,
             retries,
             time,
             size,
         } => pending(bytes, reading, sid),
+        _ => false,
     }
 }
 

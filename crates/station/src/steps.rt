@@ -21,14 +21,6 @@ pub(crate) fn after_grant(pending: bool, phase: Phase) -> Phase
     ensures { λ r. ⌜ r ≡ granted pending phase ⌝ }
 {
     match phase {
-        Phase::Idle => Phase::Idle,
-        Phase::Wanting { size } => Phase::Idle,
-        Phase::Deferring {
-            exponent,
-            left,
-            retries,
-            size,
-        } => Phase::Idle,
         Phase::Waiting {
             exponent,
             retries,
@@ -40,6 +32,7 @@ pub(crate) fn after_grant(pending: bool, phase: Phase) -> Phase
             }
             Phase::Idle
         }
+        _ => Phase::Idle,
     }
 }
 
@@ -66,14 +59,6 @@ pub(crate) fn after_ack(pending: bool, fields: Fields, draw: u16, phase: Phase) 
     ensures { λ r. ⌜ r ≡ acknowledged 32 pending fields draw phase ⌝ }
 {
     match phase {
-        Phase::Idle => phase,
-        Phase::Wanting { size } => phase,
-        Phase::Deferring {
-            exponent,
-            left,
-            retries,
-            size,
-        } => phase,
         Phase::Waiting {
             exponent,
             retries,
@@ -88,6 +73,7 @@ pub(crate) fn after_ack(pending: bool, fields: Fields, draw: u16, phase: Phase) 
             }
             phase
         }
+        _ => phase,
     }
 }
 
@@ -97,7 +83,6 @@ pub(crate) fn after_wanting(fields: Fields, draw: u16, phase: Phase) -> Phase
     ensures { λ r. ⌜ r ≡ deferred fields draw phase ⌝ }
 {
     match phase {
-        Phase::Idle => phase,
         Phase::Wanting { size } => {
             let data = fields.data;
             let exponent = data.start as u32;
@@ -108,18 +93,7 @@ pub(crate) fn after_wanting(fields: Fields, draw: u16, phase: Phase) -> Phase
                 size,
             }
         }
-        Phase::Deferring {
-            exponent,
-            left,
-            retries,
-            size,
-        } => phase,
-        Phase::Waiting {
-            exponent,
-            retries,
-            time,
-            size,
-        } => phase,
+        _ => phase,
     }
 }
 
@@ -135,8 +109,6 @@ pub(crate) fn after_deferring(
     ensures { λ r. ⌜ r ≡ sending (own (st .sid) (st .r) (mapOf (now (bytes .entry)))) (contention (st .r) (mapOf (now (bytes .entry)))) phase ⌝ }
 {
     match phase {
-        Phase::Idle => phase,
-        Phase::Wanting { size } => phase,
         Phase::Deferring {
             exponent,
             left,
@@ -146,12 +118,7 @@ pub(crate) fn after_deferring(
             Sent::At(time) => sent_at(exponent, retries, time, size),
             Sent::Nothing => pass(bytes, reading, st.r, exponent, left, retries, size),
         },
-        Phase::Waiting {
-            exponent,
-            retries,
-            time,
-            size,
-        } => phase,
+        _ => phase,
     }
 }
 
@@ -159,20 +126,13 @@ fn waiting_since(phase: Phase) -> Sent
     ensures { λ r. ⌜ r ≡ waitingSince phase ⌝ }
 {
     match phase {
-        Phase::Idle => Sent::Nothing,
-        Phase::Wanting { size } => Sent::Nothing,
-        Phase::Deferring {
-            exponent,
-            left,
-            retries,
-            size,
-        } => Sent::Nothing,
         Phase::Waiting {
             exponent,
             retries,
             time,
             size,
         } => Sent::At(time),
+        _ => Sent::Nothing,
     }
 }
 
@@ -181,19 +141,12 @@ pub(crate) fn sent_by(before: Phase, after: Phase) -> Sent
     ensures { λ r. ⌜ r ≡ sentBy before after ⌝ }
 {
     match before {
-        Phase::Idle => Sent::Nothing,
-        Phase::Wanting { size } => Sent::Nothing,
         Phase::Deferring {
             exponent,
             left,
             retries,
             size,
         } => waiting_since(after),
-        Phase::Waiting {
-            exponent,
-            retries,
-            time,
-            size,
-        } => Sent::Nothing,
+        _ => Sent::Nothing,
     }
 }

@@ -6,36 +6,11 @@ use Rattle.station.proofs.offering.busy.Tie as tie
 enum-told : tie.Need-enum-told
 enum-told c = search needs
 
-enum-known-phase : tie.Need-enum-known-phase
-enum-known-phase c = search needs
-
-enum-known-phase-2 : tie.Need-enum-known-phase-2
-enum-known-phase-2 c = search needs
-
-enum-known-phase-3 : tie.Need-enum-known-phase-3
-enum-known-phase-3 c = search needs
-
 returns : tie.Need-returns
 returns c = search record-ways
 
 returns-2 : tie.Need-returns-2
 returns-2 c = search record-ways
 
-returns-3 : tie.Need-returns-3
-returns-3 c = search record-ways
-
-returns-4 : tie.Need-returns-4
-returns-4 c = search record-ways
-
 pub busy-spec : {M : Type 1} → statement M
-busy-spec =
-    tie.close
-    (tie.spec
-    enum-told
-    enum-known-phase
-    enum-known-phase-2
-    enum-known-phase-3
-    returns
-    returns-2
-    returns-3
-    returns-4)
+busy-spec = tie.close (tie.spec enum-told returns returns-2)

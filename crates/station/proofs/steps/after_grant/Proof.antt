@@ -3,17 +3,8 @@ use borrow.Author.Needs.{needs}
 use Rattle.station.proofs.steps.after_grant.Statement.{statement}
 use Rattle.station.proofs.steps.after_grant.Tie as tie
 
-enum-told : tie.Need-enum-told
-enum-told c = search needs
-
 enum-known-phase : tie.Need-enum-known-phase
 enum-known-phase c = search needs
-
-enum-known-phase-2 : tie.Need-enum-known-phase-2
-enum-known-phase-2 c = search needs
-
-enum-known-phase-3 : tie.Need-enum-known-phase-3
-enum-known-phase-3 c = search needs
 
 returns : tie.Need-returns
 returns c = search step-ways
@@ -24,22 +15,5 @@ returns-2 c = search step-ways
 returns-3 : tie.Need-returns-3
 returns-3 c = search step-ways
 
-returns-4 : tie.Need-returns-4
-returns-4 c = search step-ways
-
-returns-5 : tie.Need-returns-5
-returns-5 c = search step-ways
-
 pub after-grant-spec : {M : Type 1} → statement M
-after-grant-spec =
-    tie.close
-    (tie.spec
-    enum-told
-    enum-known-phase
-    enum-known-phase-2
-    enum-known-phase-3
-    returns
-    returns-2
-    returns-3
-    returns-4
-    returns-5)
+after-grant-spec = tie.close (tie.spec enum-known-phase returns returns-2 returns-3)

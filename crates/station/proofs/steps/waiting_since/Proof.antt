@@ -3,17 +3,8 @@ use borrow.Author.Needs.{needs}
 use Rattle.station.proofs.steps.waiting_since.Statement.{statement}
 use Rattle.station.proofs.steps.waiting_since.Tie as tie
 
-enum-told : tie.Need-enum-told
-enum-told c = search needs
-
 enum-known-phase : tie.Need-enum-known-phase
 enum-known-phase c = search needs
-
-enum-known-phase-2 : tie.Need-enum-known-phase-2
-enum-known-phase-2 c = search needs
-
-enum-known-phase-3 : tie.Need-enum-known-phase-3
-enum-known-phase-3 c = search needs
 
 returns : tie.Need-returns
 returns c = search send-ways
@@ -21,21 +12,5 @@ returns c = search send-ways
 returns-2 : tie.Need-returns-2
 returns-2 c = search send-ways
 
-returns-3 : tie.Need-returns-3
-returns-3 c = search send-ways
-
-returns-4 : tie.Need-returns-4
-returns-4 c = search send-ways
-
 pub waiting-since-spec : {M : Type 1} → statement M
-waiting-since-spec =
-    tie.close
-    (tie.spec
-    enum-told
-    enum-known-phase
-    enum-known-phase-2
-    enum-known-phase-3
-    returns
-    returns-2
-    returns-3
-    returns-4)
+waiting-since-spec = tie.close (tie.spec enum-known-phase returns returns-2)
