@@ -250,13 +250,12 @@ module _ (s : List ℕ) (reading : Reading) (ok : readOf s ≡ Accepted reading)
         split : passing (map (movedOn 32 start) (spaced (e .offset) step count) ++ map (movedOn 32 start) (gather (contentionIn r) (rest (i + 1)))) exponent left retries size ≡ whole
         split = rw steps (rw (rest-next i more e next is then, contention-in, map-append) at here)
 
-        pub pass-sends : (q : Phase) (time : MiniSlot) → q ≡ Waiting exponent retries time size → left < (next .offset - e .offset) / step → time .0 ≡ movedOn 32 start (e .offset + left * step) → q ≡ whole
+        pub pass-sends : (q : Phase) (time : MiniSlot) → q ≡ Waiting exponent retries time size → left < count → time .0 ≡ movedOn 32 start (e .offset + left * step) → q ≡ whole
         pass-sends q time speaks h t =
             let z : time ≡ record { 0 = movedOn 32 start (e .offset + left * step) } = λ j. record { 0 = t j } in
             speaks ∙ rw z (sym (passing-sends (movedOn 32 start) exponent retries size (map (movedOn 32 start) (gather (contentionIn r) (rest (i + 1)))) step count (e .offset) left h) ∙ split)
 
-        pub pass-next : (left' : ℕ) → left' ≡ left - (next .offset - e .offset) / step → (next .offset - e .offset) / step ≤ left →
-            passing (map (movedOn 32 start) (gather (contentionIn r) (rest (i + 1)))) exponent left' retries size ≡ whole
+        pub pass-next : (left' : ℕ) → left' ≡ left - count → count ≤ left → passing (map (movedOn 32 start) (gather (contentionIn r) (rest (i + 1)))) exponent left' retries size ≡ whole
         pass-next left' so h = rw so (sym (passing-on (movedOn 32 start) exponent retries size (map (movedOn 32 start) (gather (contentionIn r) (rest (i + 1)))) step count (e .offset) left h) ∙ split)
 
       -- an interval without contention opportunities
