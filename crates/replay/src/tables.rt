@@ -6,7 +6,7 @@ use crate::print::numbers;
 use crate::print::text;
 use slots::MiniSlot;
 use station::Station;
-use station::hear_forty;
+use table::hear_forty;
 
 pub struct Told {
     pub stations: [Station; 40],

@@ -2,7 +2,5 @@ pub mod Ways
 pub mod Scanning
 pub mod Heard
 pub mod Inside
-pub mod Tabled
-pub mod Forties
 pub mod Unique
 pub mod Worked

@@ -9,11 +9,7 @@ use mathlib.Core.List.{List}
 use Rattle.station.specs.declared.record.Station.{Station}
 use Rattle.station.specs.declared.record.Answer.{Answer}
 use Rattle.station.specs.declared.record.Offered.{Offered}
-use Rattle.station.specs.declared.forty.Window.{Window}
-use Rattle.station.specs.declared.forty.Forty.{Forty}
 use Rattle.station.specs.InPlace.{HearsInPlace, OffersInPlace}
-use Rattle.station.specs.Table.{HearsTable}
-use Rattle.station.specs.Forty.{HearsForty}
 
 pub new-unique : One new.Post
 new-unique κs a r r' s s' p q = p ∙ sym q
@@ -32,11 +28,3 @@ hear-in-place-unique before bytes present draw after after' r r' p q = (p .0 ∙
 pub offer-in-place-unique : (before : Station) (size : ℕ) (after after' : Station) (r r' : Offered) →
     OffersInPlace before size after r → OffersInPlace before size after' r' → (after ≡ after') × (r ≡ r')
 offer-in-place-unique before size after after' r r' p q = (p .0 ∙ sym (q .0), p .1 ∙ sym (q .1))
-
-pub hear-table-unique : (bytes : List ℕ) (present : ℕ) (draws : List ℕ) (records : List Station) (places : List ℕ) (after after' : List Station) (at at' : List ℕ) (r r' : ℕ) →
-    HearsTable bytes present draws records places after at r → HearsTable bytes present draws records places after' at' r' → (r ≡ r') × ((after ≡ after') × (at ≡ at'))
-hear-table-unique bytes present draws records places after after' at at' r r' p q = (p .0 ∙ sym (q .0), (p .1 .0 ∙ sym (q .1 .0), p .1 .1 ∙ sym (q .1 .1)))
-
-pub hear-forty-unique : (bytes : List ℕ) (present : ℕ) (draws : List ℕ) (w : Window) (stations : List Station) (places : List ℕ) (at at' : List ℕ) (r r' : Forty) →
-    HearsForty bytes present draws w stations places at r → HearsForty bytes present draws w stations places at' r' → (r ≡ r') × (at ≡ at')
-hear-forty-unique bytes present draws w stations places at at' r r' p q = (λ i. record { code = (p .0 ∙ sym (q .0)) i; stations = (p .1 .0 ∙ sym (q .1 .0)) i }, p .1 .1 ∙ sym (q .1 .1))

@@ -6,5 +6,3 @@ pub mod Steps
 pub mod Hearing
 pub mod Offering
 pub mod InPlace
-pub mod Table
-pub mod Forty

@@ -1,9 +1,9 @@
 // Forty records by value, of which a part is lent as a table.
 ghost use mathlib.Core.Path.{_≡_};
-ghost use Rattle.station.specs.Forty.{windowOf, HearsForty};
-use crate::record::Station;
+ghost use Rattle.table.specs.Forty.{windowOf, HearsForty};
 use crate::table::hear_table;
 use slots::MiniSlot;
+use station::Station;
 
 pub struct Forty {
     pub code: u32,

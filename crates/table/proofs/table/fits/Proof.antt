@@ -1,6 +1,6 @@
-use Rattle.station.proofs.Tabled.{fitting}
-use Rattle.station.proofs.table.fits.Statement.{statement}
-use Rattle.station.proofs.table.fits.Tie as tie
+use Rattle.table.proofs.Tabled.{fitting}
+use Rattle.table.proofs.table.fits.Statement.{statement}
+use Rattle.table.proofs.table.fits.Tie as tie
 
 returns : tie.Need-returns
 returns c = search fitting

@@ -1,7 +1,7 @@
-use Rattle.station.proofs.Forties.{windows}
+use Rattle.table.proofs.Forties.{windows}
 use borrow.Author.Needs.{needs}
-use Rattle.station.proofs.forty.part_of.Statement.{statement}
-use Rattle.station.proofs.forty.part_of.Tie as tie
+use Rattle.table.proofs.forty.part_of.Statement.{statement}
+use Rattle.table.proofs.forty.part_of.Tie as tie
 
 returns : tie.Need-returns
 returns c = search windows

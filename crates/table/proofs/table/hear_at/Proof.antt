@@ -1,7 +1,7 @@
-use Rattle.station.proofs.Tabled.{as-placed}
+use Rattle.table.proofs.Tabled.{as-placed}
 use borrow.Author.Needs.{needs}
-use Rattle.station.proofs.table.hear_at.Statement.{statement}
-use Rattle.station.proofs.table.hear_at.Tie as tie
+use Rattle.table.proofs.table.hear_at.Statement.{statement}
+use Rattle.table.proofs.table.hear_at.Tie as tie
 
 mul-hear : tie.Need-mul-hear
 mul-hear c = search needs

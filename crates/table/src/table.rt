@@ -2,11 +2,11 @@
 ghost use mathlib.Core.Path.{_≡_};
 ghost use Prim.Native.Nat.{_<_};
 ghost use lib.ListN.{length, getD};
-ghost use Rattle.station.specs.Table.{fitOf, numberIn, placedOf, HearsTable};
-use crate::record::Answer;
-use crate::record::Station;
+ghost use Rattle.table.specs.Table.{fitOf, numberIn, placedOf, HearsTable};
 use message::Refusal;
 use slots::MiniSlot;
+use station::Answer;
+use station::Station;
 
 // How many records are worked, and the table's own refusal number or 0.
 pub(crate) struct Fit {

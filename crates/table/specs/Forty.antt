@@ -5,10 +5,10 @@ use mathlib.Core.Bool.{cond}
 use mathlib.Core.List.{List, _++_}
 use lib.Dec.{ltb}
 use lib.ListN.{take, drop}
 use Rattle.station.specs.declared.record.Station.{Station}
-use Rattle.station.specs.declared.forty.Window.{Window}
-use Rattle.station.specs.declared.forty.Forty.{Forty}
-use Rattle.station.specs.Table.{answerOf, tableOf, placesOf}
+use Rattle.table.specs.declared.forty.Window.{Window}
+use Rattle.table.specs.declared.forty.Forty.{Forty}
+use Rattle.table.specs.Table.{answerOf, tableOf, placesOf}
 
 -- a part that is not within the forty stands for all of them: the table's own 17, and nothing changes
 unfoldable pub windowOf : ℕ → ℕ → Window

@@ -6,13 +6,13 @@ use mathlib.Core.List.{List, [], _∷_}
 use lib.Dec.{ltb, eqb}
 use lib.ListN.{length}
 use Rattle.message.specs.Refusals.{Size, numberOf}
 use Rattle.station.specs.declared.record.Station.{Station}
 use Rattle.station.specs.declared.record.Answer.{Answer}
 use Rattle.station.specs.declared.record.Answer.the-variants.{Heard, Refused}
 use Rattle.station.specs.declared.record.Hearing.{Hearing}
-use Rattle.station.specs.declared.table.Fit.{Fit}
-use Rattle.station.specs.declared.table.Placed.{Placed}
 use Rattle.station.specs.Hearing.{hearOf}
+use Rattle.table.specs.declared.table.Fit.{Fit}
+use Rattle.table.specs.declared.table.Placed.{Placed}
 
 -- 17: "a table over 32, or fewer draws or places than records"
 unfoldable pub tableFault : ℕ → ℕ → ℕ → ℕ
