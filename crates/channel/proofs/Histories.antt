@@ -15,7 +15,7 @@ use Rattle.message.specs.Fields.{fieldsOf, badBackoffs}
 use Rattle.message.specs.Rules.{misordered, misplaced, faultOf, advanced, endedAt, walked}
 use Rattle.message.specs.Map.{intervals, mapLength, afterNull, grantsTo, pendingsTo, endOf}
 use Rattle.message.specs.Reading.{headerFault, readOf}
-use Rattle.message.specs.Writing.{bytesOf, headerOf, elementsOf, messageOf}
+use Rattle.writer.specs.Writing.{bytesOf, headerOf, elementsOf, messageOf}
 use Rattle.station.specs.declared.record.Phase.the-variants.{Idle, Waiting}
 use Rattle.station.specs.Records as station
 use Rattle.station.specs.Opportunities.{spaced, contentionIn, ownIn, contention, own}

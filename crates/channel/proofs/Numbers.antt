@@ -11,7 +11,7 @@ use Rattle.message.specs.Fields.{fieldsOf, badBackoffs}
 use Rattle.message.specs.Rules.{misordered, misplaced, faultOf, advanced, endedAt, walked}
 use Rattle.message.specs.Map.{intervals, mapLength, afterNull, grantsTo, pendingsTo}
 use Rattle.message.specs.Reading.{headerFault, readOf}
-use Rattle.message.specs.Writing.{bytesOf, headerOf, elementsOf, messageOf}
+use Rattle.writer.specs.Writing.{bytesOf, headerOf, elementsOf, messageOf}
 use Rattle.station.specs.Records.{badPhase, recordFault}
 use Rattle.station.specs.Opportunities.{spaced, contentionIn, ownIn, contention, own}
 use Rattle.station.specs.Steps.{granted, lost, acknowledged, deferred, passing, offeredOwn, sending, waitingSince, sentBy}

@@ -20,7 +20,7 @@ use Rattle.message.specs.declared.grants.Granted.the-variants.{At}
 use Rattle.message.specs.Map.{Interval, grantsTo}
 use Rattle.message.specs.Reading.{mapOf, readOf}
 use Rattle.message.specs.Grants.{kthOf, kthGrant, grantedAt, grantOf}
-use Rattle.message.proofs.Stores.{length-message}
+use Rattle.writer.proofs.Stores.{length-message}
 use Rattle.message.proofs.grants.grant as grant'
 use Rattle.message.proofs.grants.grant.Reads as grant
 use Rattle.message.proofs.grants.grant.Kinds as grant-kinds

@@ -16,7 +16,7 @@ use Rattle.message.specs.Element.{wordAt}
 use Rattle.message.specs.Fields.{fieldsOf, badBackoffs}
 use Rattle.message.specs.Rules.{misordered, misplaced, faultOf, advanced, endedAt, walked}
 use Rattle.message.specs.Reading.{headerFault, readOf}
-use Rattle.message.specs.Writing as writing
+use Rattle.writer.specs.Writing as writing
 use Rattle.station.specs.declared.record.Phase.{Phase}
 use Rattle.station.specs.declared.record.Phase.the-variants.{Idle, Wanting, Deferring, Waiting}
 use Rattle.station.specs.Records as station

@@ -16,7 +16,7 @@ use Rattle.message.specs.declared.reading.Verdict.{Verdict}
 use Rattle.message.specs.declared.reading.Verdict.the-variants as verdict
 use Rattle.message.specs.Element.{elementOf}
 use Rattle.message.specs.Reading.{readOf}
-use Rattle.message.specs.Writing.{wordOf, messageOf}
+use Rattle.writer.specs.Writing.{wordOf, messageOf}
 use Rattle.station.specs.declared.record.Phase.{Phase}
 use Rattle.station.specs.declared.record.Phase.the-variants.{Idle, Wanting, Deferring, Waiting}
 use Rattle.station.specs.declared.record.Remembered.the-variants as remembered

@@ -27,7 +27,7 @@ use Rattle.message.specs.Map.{Map}
 use Rattle.message.specs.Reading.{headerFault, mapOf, verdictOf, readOf}
 use Rattle.message.specs.Grants.{kthGrant, grantedAt, grantBy, grantOf}
 use Rattle.message.specs.Element.{elementIn}
-use Rattle.message.proofs.Stores.{length-listed}
+use Rattle.message.proofs.Lists.{length-listed}
 use Rattle.message.proofs.Ways.{header-sound}
 use Rattle.station.specs.declared.record.Station.{Station}
 use Rattle.station.specs.declared.record.Answer.{Answer}

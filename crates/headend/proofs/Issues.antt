@@ -18,8 +18,9 @@ use Rattle.message.specs.declared.reading.Reading.{Reading}
 use Rattle.message.specs.declared.refusal.Refusal.{Refusal}
 use Rattle.message.specs.Lists.{listed}
 use Rattle.message.specs.Reading.{readOf}
-use Rattle.message.specs.Writing.{messageOf, laidOut}
-use Rattle.message.proofs.Stores.{listed-last, length-listed, length-message}
+use Rattle.writer.specs.Writing.{messageOf, laidOut}
+use Rattle.message.proofs.Lists.{listed-last, length-listed}
+use Rattle.writer.proofs.Stores.{length-message}
 use Rattle.message.proofs.Ways.{said, passed, or-none}
 use Rattle.headend.specs.declared.record.Headend.{Headend}
 use Rattle.headend.specs.declared.record.Issuing.{Issuing}

@@ -12,9 +12,9 @@ use borrow.Author.Tests.{lt-ltb, le-ltb, le-leb, lt-leb, eq-eqb, ne-eqb, leb-tru
 use Rattle.message.specs.declared.element.Element.{Element}
 use Rattle.message.specs.declared.fields.Fields.{Fields}
 use Rattle.message.specs.Lists.{listed}
-use Rattle.message.specs.Writing.{given, elementsGiven, laidOut}
+use Rattle.writer.specs.Writing.{given, elementsGiven, laidOut}
 use Rattle.message.proofs.Granting.{listed-more, listed-none}
-use Rattle.message.proofs.Stores.{listed-last}
+use Rattle.message.proofs.Lists.{listed-last}
 use Rattle.message.proofs.Ways.{said}
 use Rattle.headend.specs.declared.record.Headend.{Headend}
 use Rattle.headend.specs.Requests.{Request, requestAt, heldOf, firstHeld, afterFirst}

@@ -18,8 +18,8 @@ use Rattle.message.specs.Rules.{granting, misordered, misplaced, faultOf, nothi
 use Rattle.message.specs.Map.{mapLength}
 use Rattle.message.specs.Reading.{mapOf, readOf}
 use Rattle.message.proofs.Ways.{no-fault, or-none}
-use Rattle.message.proofs.Stores.{length-listed}
-use Rattle.message.proofs.Trips.{Fits, whole-narrow, map-back, fields-back, reads-back}
+use Rattle.message.proofs.Lists.{length-listed}
+use Rattle.writer.proofs.Trips.{Fits, whole-narrow, map-back, fields-back, reads-back}
 use Rattle.headend.specs.declared.record.Headend.{Headend}
 use Rattle.headend.specs.Requests.{Request, requestAt, heldOf}
 use Rattle.headend.specs.Records.{any, badSize, recordFault}

@@ -10,7 +10,7 @@ use lib.Seq.{getD-set-same, getD-set-other}
 use Rattle.slots.specs.Time.{movedOn}
 use Rattle.message.specs.Lists.{listed}
 use Rattle.message.specs.Map.{mapLength}
-use Rattle.message.proofs.Stores.{listed-last, length-listed}
+use Rattle.message.proofs.Lists.{listed-last, length-listed}
 use Rattle.headend.specs.declared.record.Headend.{Headend}
 use Rattle.headend.specs.Requests.{Request, requestAt, heldOf, sidsOf, sizesOf, firstsOf}
 use Rattle.headend.specs.Records.{withPlaces, joined}

@@ -11,7 +11,7 @@ use Rattle.message.specs.declared.reading.Verdict.the-variants as verdict
 use Rattle.message.specs.Refusals.{Room, Ack, Plan, Selfcheck, numberOf, refusal}
 use Rattle.message.specs.Map.{Map, mapLength}
 use Rattle.message.specs.Reading.{readOf}
-use Rattle.message.specs.Writing.{messageOf, onto}
+use Rattle.writer.specs.Writing.{messageOf, onto}
 use Rattle.headend.specs.declared.record.Headend.{Headend}
 use Rattle.headend.specs.declared.record.Issuing.{Issuing}
 use Rattle.headend.specs.declared.record.Issued.the-variants as issued

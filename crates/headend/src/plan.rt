@@ -4,15 +4,15 @@ ghost use mathlib.Core.Bool.{cond};
 ghost use Prim.Native.Nat.{_+_, _*_, _≤_};
 ghost use lib.Dec.{leb};
 ghost use lib.ListN.{length, take};
-ghost use Rattle.message.specs.Writing.{laidOut, messageOf};
+ghost use Rattle.writer.specs.Writing.{laidOut, messageOf};
 ghost use Rattle.headend.specs.Requests.{heldOf, firstHeld, afterFirst};
 ghost use Rattle.headend.specs.Plan.{granted, total, elementsOf, fitsAt, elementBy, lengthBy};
 ghost use Rattle.headend.specs.Issue.{planFields};
 use crate::record::Headend;
 use message::Element;
 use message::Fields;
-use message::lay_out;
 use slots::MiniSlot;
+use writer::lay_out;
 
 // How many of the held requests are granted, and their mini-slots together.
 pub(crate) struct Grants {

@@ -2,7 +2,6 @@ pub mod Ways
 pub mod Accepted
 pub mod Parting
 pub mod Granting
-pub mod Stores
-pub mod Trips
+pub mod Lists
 pub mod Unique
-mod Worked
+pub mod Worked

@@ -13,6 +13,10 @@ use Rattle.message.proofs.fields.Fields.bad_backoffs.Reads as bad-backo
 use Rattle.message.proofs.rules.within.Reads as within
 use Rattle.message.proofs.rules.granting.Reads as granting
 use Rattle.message.proofs.rules.sid_allowed.Reads as sid-allowed
+use Rattle.message.proofs.rules.fault.Reads as fault
+use Rattle.message.proofs.rules.nothing_yet.Reads as nothing-yet
+use Rattle.message.proofs.rules.advance.Reads as advance
+use Rattle.message.proofs.rules.ended.Reads as ended
 use Rattle.message.proofs.grants.grant.Reads as grant
 use Rattle.message.proofs.after.after_null as after-null'
 use Rattle.message.proofs.after.after_null.Reads as after-null
@@ -20,12 +24,6 @@ use Rattle.message.proofs.after.after_null.Kinds as after-null-kinds
 use Rattle.message.proofs.reading.Reading.after_null as part'
 use Rattle.message.proofs.reading.Reading.after_null.Reads as part
 use Rattle.message.proofs.reading.Reading.after_null.Kinds as part-kinds
-use Rattle.message.proofs.writing.lay_out as lay-out'
-use Rattle.message.proofs.writing.lay_out.Reads as lay-out
-use Rattle.message.proofs.writing.lay_out.Kinds as lay-out-kinds
-use Rattle.message.proofs.writing.write as write'
-use Rattle.message.proofs.writing.write.Reads as write
-use Rattle.message.proofs.writing.write.Kinds as write-kinds
 
 pub read-unique : One read.Post
 read-unique κs a r r' s s' p q = p ∙ sym q
@@ -48,6 +46,18 @@ granting-unique κs a r r' s s' p q = p ∙ sym q
 pub sid-allowed-unique : One sid-allowed.Post
 sid-allowed-unique κs a r r' s s' p q = p ∙ sym q
 
+pub fault-unique : One fault.Post
+fault-unique κs a r r' s s' p q = p ∙ sym q
+
+pub nothing-yet-unique : One nothing-yet.Post
+nothing-yet-unique κs a r r' s s' p q = p ∙ sym q
+
+pub advance-unique : One advance.Post
+advance-unique κs a r r' s s' p q = p ∙ sym q
+
+pub ended-unique : One ended.Post
+ended-unique κs a r r' s s' p q = p ∙ sym q
+
 pub grant-unique : One grant.Post
 grant-unique κs a r r' s s' p q = p ∙ sym q
 
@@ -57,10 +67,3 @@ after-null-unique κs a r r' s s' p q = p ∙ sym q
 
 pub part-unique : (κs : Lifetimes.Lfts 1) (a : World.ArgsD part'.signature κs) (r r' : World.ResD part'.signature κs) (s s' : Clauses.AtExit (Kinds'.endedOf 1 part-kinds.ps part-kinds.r) κs) → part.Post κs a r s → part.Post κs a r' s' → now r ≡ now r'
 part-unique κs a r r' s s' p q = p ∙ sym q
-
--- lent bytes: what they hold at exit is one
-pub lay-out-unique : (κs : Lifetimes.Lfts 4) (a : World.ArgsD lay-out'.signature κs) (r r' : World.ResD lay-out'.signature κs) (s s' : Clauses.AtExit (Kinds'.endedOf 4 lay-out-kinds.ps lay-out-kinds.r) κs) → lay-out.Post κs a r s → lay-out.Post κs a r' s' → now (s .1 .1 .1 .1 .0) ≡ now (s' .1 .1 .1 .1 .0)
-lay-out-unique κs a r r' s s' p q = p ∙ sym q
-
-pub write-unique : (κs : Lifetimes.Lfts 4) (a : World.ArgsD write'.signature κs) (r r' : World.ResD write'.signature κs) (s s' : Clauses.AtExit (Kinds'.endedOf 4 write-kinds.ps write-kinds.r) κs) → write.Post κs a r s → write.Post κs a r' s' → (r ≡ r') × (now (s .1 .1 .1 .1 .0) ≡ now (s' .1 .1 .1 .1 .0))
-write-unique κs a r r' s s' p q = (p .0 ∙ sym (q .0), p .1 ∙ sym (q .1))

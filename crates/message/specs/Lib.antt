@@ -8,4 +8,3 @@ pub mod Map
 pub mod Reading
 pub mod After
 pub mod Grants
-pub mod Writing

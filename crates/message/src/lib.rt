@@ -1,4 +1,4 @@
-// The MAP message body of ITU-T J.112 Annex C, from the channel ID byte on: read and written.
+// The MAP message body of ITU-T J.112 Annex C, from the channel ID byte on: read.
 pub mod after;
 pub mod element;
 pub mod fields;
@@ -6,7 +6,6 @@ pub mod grants;
 pub mod reading;
 pub mod refusal;
 pub mod rules;
-pub mod writing;
 
 pub use after::after_null;
 pub use element::Element;
@@ -18,6 +17,3 @@ pub use reading::Reading;
 pub use reading::Verdict;
 pub use reading::read;
 pub use refusal::Refusal;
-pub use writing::Written;
-pub use writing::lay_out;
-pub use writing::write;

@@ -117,7 +117,7 @@ pub(crate) fn standing_fault(p: Progress, e: Element) -> u32
 }
 
 // The first rule that an element breaks, or 0.
-pub(crate) fn fault(p: Progress, e: Element) -> u32
+pub fn fault(p: Progress, e: Element) -> u32
     ensures { λ r. ⌜ r ≡ faultOf p e ⌝ }
 {
     let f = standing_fault(p, e);
@@ -133,7 +133,7 @@ pub(crate) fn fault(p: Progress, e: Element) -> u32
     0
 }
 
-pub(crate) fn nothing_yet() -> Progress
+pub fn nothing_yet() -> Progress
     ensures { λ r. ⌜ r ≡ nothingYet ⌝ }
 {
     Progress {
@@ -145,7 +145,7 @@ pub(crate) fn nothing_yet() -> Progress
     }
 }
 
-pub(crate) fn advance(p: Progress, e: Element, i: u32) -> Progress
+pub fn advance(p: Progress, e: Element, i: u32) -> Progress
     ensures { λ r. ⌜ r ≡ advanced p e i ⌝ }
 {
     if p.closed {
@@ -169,7 +169,7 @@ pub(crate) fn advance(p: Progress, e: Element, i: u32) -> Progress
     }
 }
 
-pub(crate) fn ended(p: Progress, n: u32) -> Walked
+pub fn ended(p: Progress, n: u32) -> Walked
     ensures { λ r. ⌜ r ≡ endedAt n p ⌝ }
 {
     if p.closed {

@@ -19,10 +19,10 @@ use message::Granted;
 use message::Reading;
 use message::Refusal;
 use message::Verdict;
-use message::Written;
 use slots::Begins;
 use slots::MiniSlot;
 use slots::Span;
+use writer::Written;
 
 pub fn call(word: u64, ns: &[u32], bytes: &[u8], out: &mut [u8]) -> usize {
     match word {
@@ -111,7 +111,7 @@ fn written(ns: &[u32], lent: &mut [u8]) -> Written {
     column(ns, 10, &mut uses);
     column(ns, 11, &mut offsets);
     let n = elements(ns.len());
-    message::write(
+    writer::write(
         fields_in(ns),
         &sids[0..n],
         &uses[0..n],

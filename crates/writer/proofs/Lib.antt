@@ -1,0 +1,4 @@
+pub mod Stores
+pub mod Trips
+pub mod Unique
+mod Worked
