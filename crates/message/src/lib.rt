@@ -1,4 +1,5 @@
-// The MAP message body of ITU-T J.112 Annex C, from the channel ID byte on: read.
+// The MAP message body of ITU-T J.112 Annex C, from the channel ID byte on: its rules,
+// and how it is read.
 pub mod after;
 pub mod element;
 pub mod fields;
