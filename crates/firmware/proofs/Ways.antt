@@ -2,11 +2,11 @@
 use mathlib.Core.Path.{_≡_, refl, sym, _∙_, ap}
 use mathlib.Core.Bool.{Bool, true, false, cond, _||_}
 use mathlib.Core.List.{List, [], _∷_}
-use Prim.Native.Nat.{ℕ, _<_}
+use Prim.Native.Nat.{ℕ, _<_, _≤_}
 use native.Mathlib.Omega.{arith}
 use lib.Dec.{ltb, eqb}
 use lib.ListN.{getD}
-use borrow.Author.Tests.{eq-eqb, ne-eqb, ltb-false}
+use borrow.Author.Tests.{eq-eqb, ne-eqb, lt-ltb, le-ltb, ltb-false}
 use Rattle.station.specs.declared.record.Station.{Station}
 use Rattle.station.specs.declared.record.Phase.{Phase}
 use Rattle.station.specs.declared.record.Phase.the-variants.{Idle, Wanting, Deferring, Waiting}
@@ -55,7 +55,19 @@ pub is-waiting : (p : Parts) → (p .state ≡ 0 → ⊥) → (p .state ≡ 1 �
 unfolding phaseOf
 is-waiting p a b c = simp (ne-eqb (p .state) 0 a, ne-eqb (p .state) 1 b, ne-eqb (p .state) 2 c)
 
-pub ruleset layout-ways = (no-end, an-end, is-idle, is-wanting, is-deferring, is-waiting)
+pub no-bytes : (ns : List ℕ) → (ltb 255 (getD ns 1 0) || ltb 255 (getD ns 2 0)) ≡ true → true ≡ outOfRange ns
+unfolding outOfRange
+no-bytes ns a = simp (a)
+
+pub no-flag : (ns : List ℕ) → (ltb 255 (getD ns 1 0) || ltb 255 (getD ns 2 0)) ≡ false → 1 < getD ns 4 0 → true ≡ outOfRange ns
+unfolding outOfRange
+no-flag ns a b = simp (a, lt-ltb 1 (getD ns 4 0) b)
+
+pub by-state : (ns : List ℕ) → (ltb 255 (getD ns 1 0) || ltb 255 (getD ns 2 0)) ≡ false → getD ns 4 0 ≤ 1 → ltb 3 (getD ns 6 0) ≡ outOfRange ns
+unfolding outOfRange
+by-state ns a b = simp (a, le-ltb 1 (getD ns 4 0) b)
+
+pub ruleset layout-ways = (no-end, an-end, is-idle, is-wanting, is-deferring, is-waiting, no-bytes, no-flag, by-state)
 
 either : (a b : Bool) → (a || b) ≡ false → (a ≡ false) × (b ≡ false)
 either true b e = (e, go b e)

@@ -20,9 +20,12 @@ endIn Nothing = 0
 endIn (End time) = time .0
 
 -- fields that a state doesn't have are 0 going out ..
+abbrev pub undeferred : ℕ → ℕ → Parts
+undeferred state size = record { state = state; size = size; exponent = 0; left = 0; retries = 0; time = 0 }
+
 abbrev pub partsOf : Phase → Parts
-partsOf Idle = record { state = 0; size = 0; exponent = 0; left = 0; retries = 0; time = 0 }
-partsOf (Wanting size) = record { state = 1; size = size; exponent = 0; left = 0; retries = 0; time = 0 }
+partsOf Idle = undeferred 0 0
+partsOf (Wanting size) = undeferred 1 size
 partsOf (Deferring exponent left retries size) = record { state = 2; size = size; exponent = exponent; left = left; retries = retries; time = 0 }
 partsOf (Waiting exponent retries time size) = record { state = 3; size = size; exponent = exponent; left = 0; retries = retries; time = time .0 }
 

@@ -1,7 +1,7 @@
 // A station's record as twelve numbers.
 ghost use mathlib.Core.Path.{_≡_};
 ghost use mathlib.Core.Bool.{false};
-ghost use Rattle.firmware.specs.Layout.{known, endIn, remembered, partsOf, phaseOf, partsIn, outOfRange, stationOf, numbersOf};
+ghost use Rattle.firmware.specs.Layout.{known, endIn, remembered, undeferred, partsOf, phaseOf, partsIn, outOfRange, stationOf, numbersOf};
 use slots::MiniSlot;
 use station::Phase;
 use station::Remembered;
@@ -52,26 +52,26 @@ fn remembered(known: u32, end: u32) -> Remembered
     Remembered::End(MiniSlot(end))
 }
 
+// The parts of a state that has a size at most.
+fn undeferred(state: u32, size: u32) -> Parts
+    ensures { λ r. ⌜ r ≡ undeferred state size ⌝ }
+{
+    Parts {
+        state,
+        size,
+        exponent: 0,
+        left: 0,
+        retries: 0,
+        time: 0,
+    }
+}
+
 fn parts_of(phase: Phase) -> Parts
     ensures { λ r. ⌜ r ≡ partsOf phase ⌝ }
 {
     match phase {
-        Phase::Idle => Parts {
-            state: IDLE,
-            size: 0,
-            exponent: 0,
-            left: 0,
-            retries: 0,
-            time: 0,
-        },
-        Phase::Wanting { size } => Parts {
-            state: WANTING,
-            size,
-            exponent: 0,
-            left: 0,
-            retries: 0,
-            time: 0,
-        },
+        Phase::Idle => undeferred(IDLE, 0),
+        Phase::Wanting { size } => undeferred(WANTING, size),
         Phase::Deferring {
             exponent,
             left,
@@ -143,7 +143,13 @@ fn parts_in(rec: &[u32; 12]) -> Parts
 pub(crate) fn out_of_range(rec: &[u32; 12]) -> bool
     ensures { λ r. ⌜ r ≡ outOfRange (now (rec .entry)) ⌝ }
 {
-    (255 < rec[1]) | (255 < rec[2]) | (1 < rec[4]) | (WAITING < rec[6])
+    if (255 < rec[1]) | (255 < rec[2]) {
+        return true;
+    }
+    if 1 < rec[4] {
+        return true;
+    }
+    WAITING < rec[6]
 }
 
 pub(crate) fn station_of(rec: &[u32; 12]) -> Station

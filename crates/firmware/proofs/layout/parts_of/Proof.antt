@@ -1,5 +1,5 @@
 use Rattle.firmware.specs.Layout.{partsOf}
-use mathlib.Core.Path.{sym, ap}
+use mathlib.Core.Path.{sym, _∙_, ap}
 use borrow.Author.Needs.{needs}
 use Rattle.firmware.proofs.layout.parts_of.Statement.{statement}
 use Rattle.firmware.proofs.layout.parts_of.Tie as tie
@@ -7,8 +7,14 @@ use Rattle.firmware.proofs.layout.parts_of.Tie as tie
 enum-told : tie.Need-enum-told
 enum-told c = search needs
 
+undeferred-requires : tie.Need-undeferred-requires
+undeferred-requires c κs = search needs
+
 enum-known-phase : tie.Need-enum-known-phase
 enum-known-phase c = search needs
+
+undeferred-requires-2 : tie.Need-undeferred-requires-2
+undeferred-requires-2 c κs = search needs
 
 enum-known-phase-2 : tie.Need-enum-known-phase-2
 enum-known-phase-2 c = search needs
@@ -17,10 +23,10 @@ enum-known-phase-3 : tie.Need-enum-known-phase-3
 enum-known-phase-3 c = search needs
 
 returns : tie.Need-returns
-returns c = ap partsOf (sym (c .enum-told .given .1))
+returns c = c .undeferred .ensures ∙ ap partsOf (sym (c .before .enum-told .given .1))
 
 returns-2 : tie.Need-returns-2
-returns-2 c = ap partsOf (sym (c .before .phase .given .1))
+returns-2 c = c .undeferred2 .ensures ∙ ap partsOf (sym (c .before .before .phase .given .1))
 
 returns-3 : tie.Need-returns-3
 returns-3 c = ap partsOf (sym (c .before .phase2 .given .1))
@@ -33,7 +39,9 @@ parts-of-spec =
     tie.close
     (tie.spec
     enum-told
+    undeferred-requires
     enum-known-phase
+    undeferred-requires-2
     enum-known-phase-2
     enum-known-phase-3
     returns
