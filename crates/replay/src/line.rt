@@ -3,15 +3,29 @@
 ghost use Prim.Native.Nat.{_≤_};
 ghost use lib.ListN.{length};
 use crate::words::UNKNOWN;
-use crate::words::word_of;
+use crate::words::with_letter;
 
-// The numbers and the bytes stand in what the caller lent. A line of another form is one with an
-// unknown word.
+// The digits of the hex token begin at a place, which is the line's end where there is none. A line
+// of another form is one with an unknown word.
 pub struct Line {
     pub word: u64,
-    pub count: usize,
     pub hex: bool,
+    pub digits: usize,
+    pub count: usize,
+    pub numbers: [u32; 740],
+}
+
+// The bytes of a hex token, and how many there are: NO_BYTES where the token is none.
+pub struct Bytes {
     pub size: usize,
+    pub bytes: [u8; 1000],
+}
+
+// A token of a line: where it ends, and what it is as a word and as a number.
+struct Token {
+    pub end: usize,
+    pub word: u64,
+    pub number: u64,
 }
 
 const LARGEST: u64 = 4294967295;
@@ -19,6 +33,8 @@ const LARGEST: u64 = 4294967295;
 const NO_NUMBER: u64 = 4294967296;
 
 const NO_BYTE: u32 = 256;
+
+pub const NO_BYTES: usize = 1001;
 
 // Where the bytes up to a stop end: at the next one, or with the last byte.
 pub fn end_before(s: &[u8], from: usize, stop: u8) -> usize
@@ -35,6 +51,14 @@ pub fn end_before(s: &[u8], from: usize, stop: u8) -> usize
     i
 }
 
+// The letter at a place; 0 where the letters end before it.
+fn letter_at(s: &[u8], i: usize) -> u8 {
+    if i < s.len() {
+        return s[i];
+    }
+    0
+}
+
 fn with_digit(number: u64, digit: u8) -> u64 {
     if digit < b'0' {
         return NO_NUMBER;
@@ -48,19 +72,10 @@ fn with_digit(number: u64, digit: u8) -> u64 {
     number * 10 + ((digit - b'0') as u64)
 }
 
-// Over the largest number where the token is none.
-fn number_of(token: &[u8]) -> u64 {
-    if token.len() == 0 {
+// Of so many digits.
+fn number_of(number: u64, digits: usize) -> u64 {
+    if (digits == 0) | (10 < digits) {
         return NO_NUMBER;
-    }
-    if 10 < token.len() {
-        return NO_NUMBER;
-    }
-    let mut number = 0;
-    let mut i = 0;
-    while i < token.len() {
-        number = with_digit(number, token[i]);
-        i += 1;
     }
     number
 }
@@ -94,90 +109,107 @@ fn byte_of(high: u8, low: u8) -> u32 {
     high * 16 + low
 }
 
-// Whether the digits are bytes, for which there is room.
-fn bytes_into(digits: &[u8], bytes: &mut [u8]) -> bool {
-    let n = digits.len() / 2;
-    if digits.len() % 2 != 0 {
-        return false;
+fn with_byte(made: Bytes, byte: u32) -> Bytes {
+    let mut made = made;
+    let mut bytes = made.bytes;
+    let size = made.size;
+    if 255 < byte {
+        made.size = NO_BYTES;
+        return made;
     }
-    if bytes.len() < n {
-        return false;
+    if 1000 <= size {
+        made.size = NO_BYTES;
+        return made;
     }
-    let mut i = 0;
-    while i < n {
-        let byte = byte_of(digits[2 * i], digits[2 * i + 1]);
-        if 255 < byte {
-            return false;
-        }
-        bytes[i] = byte as u8;
+    bytes[size] = byte as u8;
+    made.bytes = bytes;
+    made.size = size + 1;
+    made
+}
+
+// The bytes whose digits stand from a place to the line's end.
+pub fn bytes_of(line: &[u8], from: usize) -> Bytes {
+    let mut made = Bytes {
+        size: 0,
+        bytes: [0; 1000],
+    };
+    let mut i = from;
+    while i < line.len() {
+        made = with_byte(made, byte_of(letter_at(line, i), letter_at(line, i + 1)));
+        i += 2;
+    }
+    made
+}
+
+fn token_at(line: &[u8], from: usize) -> Token
+    requires { ⌜ from ≤ length (now line) ⌝ }
+    ensures { λ r. ⌜ (from ≤ r .end) × (r .end ≤ length (now (line .entry))) ⌝ }
+{
+    let end = end_before(line, from, b' ');
+    let mut word = 0;
+    let mut number = 0;
+    let mut i = from;
+    while i < end {
+        let letter = letter_at(line, i);
+        word = with_letter(word, letter);
+        number = with_digit(number, letter);
         i += 1;
     }
-    true
+    Token {
+        end,
+        word,
+        number: number_of(number, end - from),
+    }
 }
 
-fn bad() -> Line {
-    Line {
-        word: UNKNOWN,
+// The line with one number more.
+fn with_number(line: Line, number: u64) -> Line {
+    let mut line = line;
+    let mut numbers = line.numbers;
+    let count = line.count;
+    if LARGEST < number {
+        line.word = UNKNOWN;
+        return line;
+    }
+    if 740 <= count {
+        line.word = UNKNOWN;
+        return line;
+    }
+    numbers[count] = number as u32;
+    line.numbers = numbers;
+    line.count = count + 1;
+    line
+}
+
+// The line with one token more: of its first letter, its number, and the place of its second letter.
+// One behind the hex token is passed over: the digits, up to the line's end, have a space then.
+fn with_token(line: Line, letter: u8, number: u64, second: usize) -> Line {
+    let mut line = line;
+    if line.hex {
+        return line;
+    }
+    if letter != b'x' {
+        return with_number(line, number);
+    }
+    line.hex = true;
+    line.digits = second;
+    line
+}
+
+pub fn parse(text: &[u8]) -> Line {
+    let first = token_at(text, 0);
+    let mut at = first.end;
+    let mut line = Line {
+        word: first.word,
+        hex: false,
+        digits: text.len(),
         count: 0,
-        hex: false,
-        size: 0,
+        numbers: [0; 740],
+    };
+    while at < text.len() {
+        let token = token_at(text, at + 1);
+        line = with_token(line, letter_at(text, at + 1), token.number, at + 2);
+        at = token.end;
     }
-}
-
-// The bytes from a place on; none where they end before it.
-fn rest(s: &[u8], from: usize) -> &[u8] {
-    if s.len() < from {
-        let end = s.len();
-        return &s[end..];
-    }
-    &s[from..]
-}
-
-// The line whose last token is the hex token, its digits from a place on.
-fn ended(word: u64, count: usize, line: &[u8], from: usize, bytes: &mut [u8]) -> Line {
-    let digits = rest(line, from);
-    if !bytes_into(digits, bytes) {
-        return bad();
-    }
-    Line {
-        word,
-        count,
-        hex: true,
-        size: digits.len() / 2,
-    }
-}
-
-fn begins_hex(line: &[u8], at: usize) -> bool {
-    if line.len() <= at {
-        return false;
-    }
-    line[at] == b'x'
-}
-
-pub fn parse(line: &[u8], numbers: &mut [u32], bytes: &mut [u8]) -> Line {
-    let mut at = end_before(line, 0, b' ');
-    let word = word_of(&line[0..at]);
-    let mut count = 0;
-    while at < line.len() {
-        let from = at + 1;
-        if begins_hex(line, from) {
-            return ended(word, count, line, from + 1, bytes);
-        }
-        at = end_before(line, from, b' ');
-        let number = number_of(&line[from..at]);
-        if LARGEST < number {
-            return bad();
-        }
-        if numbers.len() <= count {
-            return bad();
-        }
-        numbers[count] = number as u32;
-        count += 1;
-    }
-    Line {
-        word,
-        count,
-        hex: false,
-        size: 0,
-    }
+    line
 }

@@ -3,6 +3,7 @@
 ghost use mathlib.Core.Path.{_≡_};
 ghost use lib.ListN.{length};
 
+mod forms;
 mod headends;
 mod line;
 mod messages;
@@ -13,34 +14,32 @@ mod stations;
 mod tables;
 mod words;
 
+use line::bytes_of;
 use line::end_before;
 use line::parse;
 use places::Places;
+use print::end_line;
 use print::say;
 
 const MOST_INPUT: usize = 1048576;
 
-// The places after one line. An empty line has no answer. The longest answer, an `issue` with 1,000
-// bytes lent and 64 requests held, takes under 4,300 bytes.
+// The places after one line.
 fn answered(places: Places, line: &[u8]) -> Places {
-    if line.len() == 0 {
-        return places;
-    }
-    let mut numbers = [0u32; 740];
-    let mut bytes = [0u8; 1000];
-    let mut out = [0u8; 8192];
-    let parsed = parse(line, &mut numbers, &mut bytes);
-    let done = places.call(parsed, &numbers, &bytes, &mut out);
-    say(&mut out, done.used);
-    done.places
+    let parsed = parse(line);
+    let bytes = bytes_of(line, parsed.digits);
+    places.answer(parsed, bytes)
 }
 
+// An empty line has no answer.
 fn run(script: &[u8]) {
     let mut places = Places::new();
     let mut at = 0;
     while at < script.len() {
         let end = end_before(script, at, b'\n');
-        places = answered(places, &script[at..end]);
+        if at < end {
+            places = answered(places, &script[at..end]);
+            end_line();
+        }
         at = end + 1;
     }
 }
@@ -57,7 +56,8 @@ fn main() {
     let mut input = input();
     let n = io::read_full(0, &mut input);
     if MOST_INPUT < n {
-        io::write_all(1, b"bad\n");
+        say(words::BAD);
+        end_line();
         return;
     }
     run(&input[..n]);

@@ -1,18 +1,18 @@
-// The calls on messages and on times. Each answers how many bytes of the line it used: none where
-// a number is out of the range that its place takes.
+// The calls on messages and on times: each prints its answer.
 ghost use Prim.Native.Nat.{_≤_};
-use crate::numbers::MOST_ROOM;
 use crate::numbers::backoff_at;
 use crate::numbers::byte_at;
-use crate::numbers::bytes_in;
 use crate::numbers::column;
 use crate::numbers::number_at;
+use crate::numbers::room_at;
+use crate::print::backoff;
 use crate::print::hex;
+use crate::print::none;
 use crate::print::number;
-use crate::print::numbers;
-use crate::print::put;
+use crate::print::pair;
 use crate::print::refused;
-use crate::print::text;
+use crate::print::say;
+use crate::print::space;
 use crate::words;
 use message::Fields;
 use message::Granted;
@@ -24,58 +24,45 @@ use slots::MiniSlot;
 use slots::Span;
 use writer::Written;
 
-pub fn call(word: u64, ns: &[u32], bytes: &[u8], out: &mut [u8]) -> usize {
+pub fn call(word: u64, ns: &[u32], bytes: &[u8]) {
     match word {
-        words::READ => read(bytes, out),
-        words::AFTER => hex(out, 0, message::after_null(bytes)),
-        words::GRANT => grant(ns, bytes, out),
-        words::WRITE => write(ns, out),
-        words::BEGINS => begins(ns, out),
-        words::EARLIER => earlier(ns, out),
-        words::SPAN => span(ns, out),
-        _ => 0,
+        words::READ => read(bytes),
+        words::AFTER => hex(message::after_null(bytes)),
+        words::GRANT => grant(ns, bytes),
+        words::WRITE => write(ns),
+        words::BEGINS => begins(ns),
+        words::EARLIER => earlier(ns),
+        words::SPAN => span(ns),
+        _ => say(words::BAD),
     }
 }
 
-fn read(bytes: &[u8], out: &mut [u8]) -> usize {
+fn read(bytes: &[u8]) {
     match message::read(bytes) {
-        Verdict::Accepted(reading) => map(reading, out),
-        Verdict::Refused(why) => refused(out, 0, why),
+        Verdict::Accepted(reading) => map(reading),
+        Verdict::Refused(why) => refused(why),
     }
 }
 
-fn map(reading: Reading, out: &mut [u8]) -> usize {
+fn map(reading: Reading) {
     let fields = reading.fields;
-    let start = fields.start;
-    let ack = fields.ack;
-    let ranging = fields.ranging;
-    let data = fields.data;
-    let shown = [
-        fields.channel as u32,
-        fields.count as u32,
-        reading.n,
-        start.0,
-        ack.0,
-        ranging.start as u32,
-        ranging.end as u32,
-        data.start as u32,
-        data.end as u32,
-        reading.null,
-        reading.length,
-    ];
-    let used = text(out, 0, b"map");
-    numbers(out, used, &shown)
+    say(words::MAP);
+    pair(fields.channel as u32, fields.count as u32);
+    number(reading.n);
+    pair(fields.start.0, fields.ack.0);
+    backoff(fields.ranging);
+    backoff(fields.data);
+    pair(reading.null, reading.length);
 }
 
-fn grant(ns: &[u32], bytes: &[u8], out: &mut [u8]) -> usize {
+fn grant(ns: &[u32], bytes: &[u8]) {
     match message::grant(bytes, number_at(ns, 0), number_at(ns, 1)) {
         Granted::At { first, length } => {
-            let used = text(out, 0, b"grant");
-            let used = number(out, used, first.0);
-            number(out, used, length)
+            say(words::GRANT);
+            pair(first.0, length);
         }
-        Granted::Nowhere => text(out, 0, b"none"),
-        Granted::Refused(why) => refused(out, 0, why),
+        Granted::Nowhere => say(words::NONE),
+        Granted::Refused(why) => refused(why),
     }
 }
 
@@ -103,13 +90,17 @@ fn elements(n: usize) -> usize
     (n - 9) / 3
 }
 
+// One of the three columns of elements.
+fn parts(ns: &[u32], from: usize) -> [u32; 241] {
+    let mut parts = [0u32; 241];
+    column(ns, from, &mut parts);
+    parts
+}
+
 fn written(ns: &[u32], lent: &mut [u8]) -> Written {
-    let mut sids = [0u32; 241];
-    let mut uses = [0u32; 241];
-    let mut offsets = [0u32; 241];
-    column(ns, 9, &mut sids);
-    column(ns, 10, &mut uses);
-    column(ns, 11, &mut offsets);
+    let sids = parts(ns, 9);
+    let uses = parts(ns, 10);
+    let offsets = parts(ns, 11);
     let n = elements(ns.len());
     writer::write(
         fields_in(ns),
@@ -120,79 +111,62 @@ fn written(ns: &[u32], lent: &mut [u8]) -> Written {
     )
 }
 
-fn wrote(answer: Written, out: &mut [u8]) -> usize {
+fn wrote(answer: Written) {
     match answer {
         Written::Size(size) => {
-            let used = text(out, 0, b"wrote");
-            number(out, used, size)
+            say(words::WROTE);
+            number(size);
         }
-        Written::Refused(why) => refused(out, 0, why),
+        Written::Refused(why) => refused(why),
     }
 }
 
 // The answer, and then what the lent bytes hold.
-fn write_into(ns: &[u32], lent: &mut [u8], out: &mut [u8]) -> usize {
-    let answer = written(ns, lent);
-    let used = wrote(answer, out);
-    let used = put(out, used, b' ');
-    hex(out, used, lent)
+fn write(ns: &[u32]) {
+    let mut bytes = [0xA5u8; 1000];
+    let room = room_at(ns, 0);
+    let lent = &mut bytes[0..room];
+    wrote(written(ns, lent));
+    space();
+    hex(lent);
 }
 
-fn write(ns: &[u32], out: &mut [u8]) -> usize {
-    let room = number_at(ns, 0) as usize;
-    if MOST_ROOM < room {
-        return 0;
-    }
-    if !bytes_in(ns, 1, 3) {
-        return 0;
-    }
-    if !bytes_in(ns, 5, 9) {
-        return 0;
-    }
-    let mut lent = [0xA5u8; 1000];
-    write_into(ns, &mut lent[0..room], out)
-}
-
-fn begins(ns: &[u32], out: &mut [u8]) -> usize {
+fn begins(ns: &[u32]) {
     let slot = MiniSlot(number_at(ns, 0));
     match slot.begins(number_at(ns, 1)) {
         Begins::At(time) => {
-            let used = text(out, 0, b"begins");
-            number(out, used, time.0)
+            say(words::BEGINS);
+            number(time.0);
         }
-        Begins::Size => refused(
-            out,
-            0,
-            Refusal {
-                number: Refusal::SIZE,
-                element: 0,
-            },
-        ),
+        Begins::Size => refused(Refusal {
+            number: Refusal::SIZE,
+            element: 0,
+        }),
     }
 }
 
-fn earlier(ns: &[u32], out: &mut [u8]) -> usize {
+fn earlier(ns: &[u32]) {
     let a = MiniSlot(number_at(ns, 0));
     let b = MiniSlot(number_at(ns, 1));
     if a.earlier(b) {
-        return text(out, 0, b"yes");
+        say(words::YES);
+        return;
     }
-    text(out, 0, b"no")
+    say(words::NO);
 }
 
-fn spanned(span: Span, out: &mut [u8]) -> usize {
-    let used = text(out, 0, b"span");
+fn spanned(span: Span) {
+    say(words::SPAN);
     match span {
         Span::Over { earliest, latest } => {
-            let used = number(out, used, earliest.0);
-            number(out, used, latest.0)
+            pair(earliest.0, latest.0);
         }
-        Span::Nothing => text(out, used, b" none"),
-        Span::Lost => text(out, used, b" none"),
+        Span::Nothing => none(),
+        Span::Lost => none(),
     }
 }
 
-fn span(ns: &[u32], out: &mut [u8]) -> usize {
+fn span(ns: &[u32]) {
     let pairs = ns.len() / 2;
     let mut span = Span::new();
     let mut left: u32 = 0;
@@ -205,6 +179,6 @@ fn span(ns: &[u32], out: &mut [u8]) -> usize {
         span = added.span;
         i += 1;
     }
-    let used = spanned(span, out);
-    number(out, used, left)
+    spanned(span);
+    number(left);
 }

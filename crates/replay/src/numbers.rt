@@ -1,8 +1,7 @@
-// The numbers that follow a line's word, looked up by their places, and the bytes.
+// The numbers that follow a line's word, looked up by their places, and the bytes. A number out of
+// the range that its place takes is brought into it, though such lines are kept out before.
+ghost use Prim.Native.Nat.{_≤_};
 use message::Backoff;
-
-// The bytes that a call may ask to be lent.
-pub const MOST_ROOM: usize = 1000;
 
 // The front of what was lent, as far as the line filled it.
 pub fn first_numbers(numbers: &[u32], n: usize) -> &[u32] {
@@ -31,6 +30,13 @@ pub fn byte_at(numbers: &[u32], i: usize) -> u8 {
     (number_at(numbers, i) % 256) as u8
 }
 
+// The bytes that a call asks to be lent.
+pub fn room_at(numbers: &[u32], i: usize) -> usize
+    ensures { λ r. ⌜ r ≤ 1000 ⌝ }
+{
+    (number_at(numbers, i) % 1001) as usize
+}
+
 pub fn backoff_at(numbers: &[u32], start: usize, end: usize) -> Backoff {
     Backoff {
         start: byte_at(numbers, start),
@@ -38,11 +44,11 @@ pub fn backoff_at(numbers: &[u32], start: usize, end: usize) -> Backoff {
     }
 }
 
-// Whether the numbers from one place up to another are bytes.
-pub fn bytes_in(numbers: &[u32], from: usize, to: usize) -> bool {
+// Whether no number from one place up to another is over the most.
+pub fn all_within(numbers: &[u32], from: usize, to: usize, most: u32) -> bool {
     let mut i = from;
     while i < to {
-        if 255 < number_at(numbers, i) {
+        if most < number_at(numbers, i) {
             return false;
         }
         i += 1;

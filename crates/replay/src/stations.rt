@@ -1,11 +1,11 @@
-// The calls on one station: the station after the call, and how many bytes of the line are used.
+// The calls on one station: each prints its answer and gives the station after it.
 use crate::numbers::byte_at;
-use crate::numbers::bytes_in;
 use crate::numbers::number_at;
+use crate::print::none;
 use crate::print::number;
-use crate::print::numbers;
+use crate::print::pair;
 use crate::print::refused;
-use crate::print::text;
+use crate::print::say;
 use crate::words;
 use slots::MiniSlot;
 use station::Answer;
@@ -15,11 +15,6 @@ use station::Remembered;
 use station::Sent;
 use station::SetUp;
 use station::Station;
-
-pub struct Told {
-    pub station: Station,
-    pub used: usize,
-}
 
 // A station that no set-up has touched.
 pub fn untouched() -> Station {
@@ -33,83 +28,66 @@ pub fn untouched() -> Station {
     }
 }
 
-pub fn call(st: Station, word: u64, ns: &[u32], bytes: &[u8], out: &mut [u8]) -> Told {
+pub fn call(st: Station, word: u64, ns: &[u32], bytes: &[u8]) -> Station {
     match word {
-        words::STATION => set_up(st, ns, out),
-        words::RECORD => record(st, ns, out),
-        words::SHOW => shown(st, out),
-        words::OFFER => offer(st, ns, out),
-        words::HEAR => hear(st, ns, bytes, out),
-        _ => bad(st),
+        words::STATION => set_up(st, ns),
+        words::RECORD => shown(record(ns)),
+        words::OFFER => offer(st, ns),
+        words::HEAR => hear(st, ns, bytes),
+        _ => shown(st),
     }
 }
 
-fn bad(station: Station) -> Told {
-    Told { station, used: 0 }
+// KNOWN END
+fn print_end(end: Remembered) {
+    match end {
+        Remembered::Nothing => pair(0, 0),
+        Remembered::End(time) => pair(1, time.0),
+    }
+}
+
+fn six(state: u32, size: u32, exponent: u32, left: u32, retries: u32, time: u32) {
+    pair(state, size);
+    pair(exponent, left);
+    pair(retries, time);
 }
 
 // STATE SIZE EXPONENT LEFT RETRIES TIME: 0 where the phase has no such field.
-fn numbers_of(phase: Phase) -> [u32; 6] {
+fn print_phase(phase: Phase) {
     match phase {
-        Phase::Idle => [0, 0, 0, 0, 0, 0],
-        Phase::Wanting { size } => [1, size, 0, 0, 0, 0],
+        Phase::Idle => six(0, 0, 0, 0, 0, 0),
+        Phase::Wanting { size } => six(1, size, 0, 0, 0, 0),
         Phase::Deferring {
             exponent,
             left,
             retries,
             size,
-        } => [2, size, exponent, left, retries, 0],
+        } => six(2, size, exponent, left, retries, 0),
         Phase::Waiting {
             exponent,
             retries,
             time,
             size,
-        } => [3, size, exponent, 0, retries, time.0],
+        } => six(3, size, exponent, 0, retries, time.0),
     }
 }
 
-fn known(end: Remembered) -> u32 {
-    match end {
-        Remembered::Nothing => 0,
-        Remembered::End(_) => 1,
-    }
-}
-
-fn end_of(end: Remembered) -> u32 {
-    match end {
-        Remembered::Nothing => 0,
-        Remembered::End(time) => time.0,
-    }
-}
-
-fn print(out: &mut [u8], used: usize, st: Station) -> usize {
-    let phase = st.phase;
+fn print(st: Station) {
     let end = st.end;
-    let set = [
-        st.sid,
-        st.channel as u32,
-        st.count as u32,
-        st.r,
-        known(end),
-        end_of(end),
-    ];
-    let doing = numbers_of(phase);
-    let used = numbers(out, used, &set);
-    numbers(out, used, &doing)
+    let phase = st.phase;
+    pair(st.sid, st.channel as u32);
+    pair(st.count as u32, st.r);
+    print_end(end);
+    print_phase(phase);
 }
 
-fn shown(station: Station, out: &mut [u8]) -> Told {
-    let used = text(out, 0, b"station");
-    Told {
-        station,
-        used: print(out, used, station),
-    }
+fn shown(station: Station) -> Station {
+    say(words::STATION);
+    print(station);
+    station
 }
 
-fn set_up(st: Station, ns: &[u32], out: &mut [u8]) -> Told {
-    if !bytes_in(ns, 2, 4) {
-        return bad(st);
-    }
+fn set_up(st: Station, ns: &[u32]) -> Station {
     let made = Station::new(
         number_at(ns, 1),
         byte_at(ns, 2),
@@ -117,11 +95,11 @@ fn set_up(st: Station, ns: &[u32], out: &mut [u8]) -> Told {
         number_at(ns, 4),
     );
     match made {
-        SetUp::Ready(station) => shown(station, out),
-        SetUp::Refused(why) => Told {
-            station: st,
-            used: refused(out, 0, why),
-        },
+        SetUp::Ready(station) => shown(station),
+        SetUp::Refused(why) => {
+            refused(why);
+            st
+        }
     }
 }
 
@@ -133,94 +111,76 @@ fn remembered(known: u32, end: u32) -> Remembered {
 }
 
 fn phase_in(ns: &[u32]) -> Phase {
+    let size = number_at(ns, 8);
+    let exponent = number_at(ns, 9);
+    let retries = number_at(ns, 11);
     match number_at(ns, 7) {
         0 => Phase::Idle,
-        1 => Phase::Wanting {
-            size: number_at(ns, 8),
-        },
+        1 => Phase::Wanting { size },
         2 => Phase::Deferring {
-            exponent: number_at(ns, 9),
+            exponent,
             left: number_at(ns, 10),
-            retries: number_at(ns, 11),
-            size: number_at(ns, 8),
+            retries,
+            size,
         },
         _ => Phase::Waiting {
-            exponent: number_at(ns, 9),
-            retries: number_at(ns, 11),
+            exponent,
+            retries,
             time: MiniSlot(number_at(ns, 12)),
-            size: number_at(ns, 8),
+            size,
         },
     }
 }
 
-fn record(st: Station, ns: &[u32], out: &mut [u8]) -> Told {
-    if !bytes_in(ns, 2, 4) {
-        return bad(st);
-    }
-    if 1 < number_at(ns, 5) {
-        return bad(st);
-    }
-    if 3 < number_at(ns, 7) {
-        return bad(st);
-    }
-    let station = Station {
+fn record(ns: &[u32]) -> Station {
+    Station {
         sid: number_at(ns, 1),
         channel: byte_at(ns, 2),
         count: byte_at(ns, 3),
         r: number_at(ns, 4),
         end: remembered(number_at(ns, 5), number_at(ns, 6)),
         phase: phase_in(ns),
-    };
-    shown(station, out)
-}
-
-fn offered(answer: Offered, out: &mut [u8]) -> usize {
-    match answer {
-        Offered::Taken => text(out, 0, b"offered"),
-        Offered::Refused(why) => refused(out, 0, why),
     }
 }
 
-fn offer(st: Station, ns: &[u32], out: &mut [u8]) -> Told {
+fn offered(answer: Offered) {
+    match answer {
+        Offered::Taken => say(words::OFFERED),
+        Offered::Refused(why) => refused(why),
+    }
+}
+
+fn offer(st: Station, ns: &[u32]) -> Station {
     let offering = st.offer(number_at(ns, 1));
     let answer = offering.answer;
-    let station = offering.station;
-    let used = offered(answer, out);
-    Told {
-        station,
-        used: print(out, used, station),
-    }
+    offered(answer);
+    print(offering.station);
+    offering.station
 }
 
-fn sent(request: Sent, used: usize, out: &mut [u8]) -> usize {
+fn sent(request: Sent) {
     match request {
-        Sent::Nothing => text(out, used, b" none"),
-        Sent::At(first) => number(out, used, first.0),
+        Sent::Nothing => none(),
+        Sent::At(first) => number(first.0),
     }
 }
 
-fn heard(answer: Answer, out: &mut [u8]) -> usize {
+fn heard(answer: Answer) {
     match answer {
         Answer::Heard { bursts, request } => {
-            let used = text(out, 0, b"heard");
-            let used = number(out, used, bursts);
-            sent(request, used, out)
+            say(words::HEARD);
+            number(bursts);
+            sent(request);
         }
-        Answer::Refused(why) => refused(out, 0, why),
+        Answer::Refused(why) => refused(why),
     }
 }
 
-fn hear(st: Station, ns: &[u32], bytes: &[u8], out: &mut [u8]) -> Told {
-    let draw = number_at(ns, 2);
-    if 65535 < draw {
-        return bad(st);
-    }
-    let hearing = st.hear(bytes, MiniSlot(number_at(ns, 1)), draw as u16);
+fn hear(st: Station, ns: &[u32], bytes: &[u8]) -> Station {
+    let draw = (number_at(ns, 2) % 65536) as u16;
+    let hearing = st.hear(bytes, MiniSlot(number_at(ns, 1)), draw);
     let answer = hearing.answer;
-    let station = hearing.station;
-    let used = heard(answer, out);
-    Told {
-        station,
-        used: print(out, used, station),
-    }
+    heard(answer);
+    print(hearing.station);
+    hearing.station
 }

@@ -3,22 +3,14 @@ ghost use Prim.Native.Nat.{_≤_};
 use crate::numbers::number_at;
 use crate::print::number;
 use crate::print::numbers;
-use crate::print::text;
+use crate::print::say;
+use crate::words;
 use slots::MiniSlot;
 use station::Station;
 use table::hear_forty;
 
-pub struct Told {
-    pub stations: [Station; 40],
-    pub used: usize,
-}
-
-fn bad(stations: [Station; 40]) -> Told {
-    Told { stations, used: 0 }
-}
-
 // How many draws, of at most 40, follow the four numbers.
-fn given(n: usize) -> usize
+fn given_draws(n: usize) -> usize
     ensures { λ r. ⌜ r ≤ 40 ⌝ }
 {
     if n < 4 {
@@ -30,59 +22,32 @@ fn given(n: usize) -> usize
     n - 4
 }
 
-// Whether every number from the fifth on is a draw. Where none is given, 0 is put.
-fn draws_into(ns: &[u32], draws: &mut [u16]) -> bool {
+// The numbers from the fifth on; 0 where none is given.
+fn draws_in(ns: &[u32]) -> [u16; 40] {
+    let mut draws = [0u16; 40];
     let mut i = 0;
-    while i < draws.len() {
-        let draw = number_at(ns, i + 4);
-        if 65535 < draw {
-            return false;
-        }
-        draws[i] = draw as u16;
+    while i < 40 {
+        draws[i] = (number_at(ns, i + 4) % 65536) as u16;
         i += 1;
     }
-    true
+    draws
 }
 
-// The answer, and then what the lent places hold.
-fn hear_into(
-    stations: [Station; 40],
-    ns: &[u32],
-    bytes: &[u8],
-    draws: &[u16],
-    places: &mut [u32],
-    out: &mut [u8],
-) -> Told {
+// The answer, and then what the places hold.
+pub fn call(stations: [Station; 40], ns: &[u32], bytes: &[u8]) -> [Station; 40] {
+    let given = draws_in(ns);
+    let n = given_draws(ns.len());
+    let draws = &given[0..n];
+    let room = (number_at(ns, 3) % 41) as usize;
+    let mut answers = [9999u32; 40];
+    let places = &mut answers[0..room];
     let first = number_at(ns, 0) as usize;
     let count = number_at(ns, 1) as usize;
     let present = MiniSlot(number_at(ns, 2));
     let heard = hear_forty(stations, first, count, bytes, present, draws, places);
     let after = heard.stations;
-    let used = text(out, 0, b"table");
-    let used = number(out, used, heard.code);
-    Told {
-        stations: after,
-        used: numbers(out, used, places),
-    }
-}
-
-pub fn call(stations: [Station; 40], ns: &[u32], bytes: &[u8], out: &mut [u8]) -> Told {
-    let first = number_at(ns, 0);
-    let room = number_at(ns, 3) as usize;
-    if 40 < first {
-        return bad(stations);
-    }
-    if 40 - first < number_at(ns, 1) {
-        return bad(stations);
-    }
-    if 40 < room {
-        return bad(stations);
-    }
-    let mut draws = [0u16; 40];
-    if !draws_into(ns, &mut draws) {
-        return bad(stations);
-    }
-    let n = given(ns.len());
-    let mut places = [9999u32; 40];
-    hear_into(stations, ns, bytes, &draws[0..n], &mut places[0..room], out)
+    say(words::TABLE);
+    number(heard.code);
+    numbers(places);
+    after
 }

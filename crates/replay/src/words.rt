@@ -1,5 +1,6 @@
-// The words that begin a line: each is the number that its letters make, first letter highest. How
-// many numbers follow, and whether bytes do, is told here for all.
+// The words that begin a line: each is the number that its letters make, first letter highest.
+
+// Those of calls; some begin an answer too.
 pub const READ: u64 = 0x72656164;
 
 pub const AFTER: u64 = 0x6166746572;
@@ -36,11 +37,34 @@ pub const REQUEST: u64 = 0x72657175657374;
 
 pub const ISSUE: u64 = 0x6973737565;
 
+// Those of answers alone.
+pub const MAP: u64 = 0x6D6170;
+
+pub const REFUSED: u64 = 0x72656675736564;
+
+pub const WROTE: u64 = 0x77726F7465;
+
+pub const NONE: u64 = 0x6E6F6E65;
+
+pub const YES: u64 = 0x796573;
+
+pub const NO: u64 = 0x6E6F;
+
+pub const OFFERED: u64 = 0x6F666665726564;
+
+pub const HEARD: u64 = 0x6865617264;
+
+pub const TAKEN: u64 = 0x74616B656E;
+
+pub const ISSUED: u64 = 0x697373756564;
+
+pub const BAD: u64 = 0x626164;
+
 // Larger than the number of any word of seven letters.
 pub const UNKNOWN: u64 = 0x100000000000000;
 
 // The number of a word with one letter more.
-fn with_letter(word: u64, letter: u8) -> u64 {
+pub fn with_letter(word: u64, letter: u8) -> u64 {
     if letter < b'a' {
         return UNKNOWN;
     }
@@ -51,40 +75,4 @@ fn with_letter(word: u64, letter: u8) -> u64 {
         return UNKNOWN;
     }
     word * 256 + (letter as u64)
-}
-
-pub fn word_of(token: &[u8]) -> u64 {
-    let mut word = 0;
-    let mut i = 0;
-    while i < token.len() {
-        word = with_letter(word, token[i]);
-        i += 1;
-    }
-    word
-}
-
-// Whether a hex token ends the line.
-pub fn takes_bytes(word: u64) -> bool {
-    match word {
-        READ | AFTER | GRANT | HEAR | TABLE => true,
-        _ => false,
-    }
-}
-
-pub fn takes_numbers(word: u64, n: usize) -> bool {
-    match word {
-        READ | AFTER => n == 0,
-        SHOW | HELD => n == 1,
-        BEGINS | EARLIER | GRANT | OFFER => n == 2,
-        HEAR => n == 3,
-        REQUEST => n == 4,
-        STATION | ISSUE => n == 5,
-        HEADEND => n == 9,
-        RECORD => n == 13,
-        WRITE => (9 <= n) & (n <= 732) & (n % 3 == 0),
-        HOLDING => (11 <= n) & (n <= 203) & (n % 3 == 2),
-        SPAN => (n <= 600) & (n % 2 == 0),
-        TABLE => (4 <= n) & (n <= 44),
-        _ => false,
-    }
 }

@@ -31,6 +31,9 @@ part-answered-end c = search needs
 answered-requires : tie.Need-answered-requires Inv-loop μ-loop
 answered-requires c κs = search needs
 
+end-line-requires : tie.Need-end-line-requires Inv-loop μ-loop
+end-line-requires c κs = search needs
+
 add-at : tie.Need-add-at Inv-loop μ-loop
 add-at c = search needs
 
@@ -56,6 +59,7 @@ run-spec =
     part-answered-start
     part-answered-end
     answered-requires
+    end-line-requires
     add-at
     loop-less
     loop-again

@@ -1,15 +1,13 @@
 use borrow.Author.Needs.{needs}
 use Prim.Native.Nat.{_-_, _≤_}
-use lib.ListN.{length}
-use mathlib.Core.Path.{_≡_}
 use Rattle.replay.proofs.headends.print_held.Statement.{statement}
 use Rattle.replay.proofs.headends.print_held.Tie as tie
 
 abbrev Inv-loop : tie.InvT-loop
-Inv-loop out₀ used sids sizes firsts n used₀ i₀ out used' i = (length out ≡ length out₀) × ((i ≤ n) × (n ≤ 64))
+Inv-loop sids sizes firsts n i₀ i = (i ≤ n) × (n ≤ 64)
 
 abbrev μ-loop : tie.MeasureT-loop
-μ-loop out₀ used sids sizes firsts n used₀ i₀ out used' i = n - i
+μ-loop sids sizes firsts n i₀ i = n - i
 
 places-requires : tie.Need-places-requires Inv-loop μ-loop
 places-requires c κs = search needs
@@ -26,23 +24,20 @@ array-read-number c = search needs
 number-requires : tie.Need-number-requires Inv-loop μ-loop
 number-requires c κs = search needs
 
-mul-number-2 : tie.Need-mul-number-2 Inv-loop μ-loop
-mul-number-2 c = search needs
+mul-pair : tie.Need-mul-pair Inv-loop μ-loop
+mul-pair c = search needs
 
-array-read-number-2 : tie.Need-array-read-number-2 Inv-loop μ-loop
-array-read-number-2 c = search needs
+array-read-pair : tie.Need-array-read-pair Inv-loop μ-loop
+array-read-pair c = search needs
 
-number-requires-2 : tie.Need-number-requires-2 Inv-loop μ-loop
-number-requires-2 c κs = search needs
+mul-pair-2 : tie.Need-mul-pair-2 Inv-loop μ-loop
+mul-pair-2 c = search needs
 
-mul-number-3 : tie.Need-mul-number-3 Inv-loop μ-loop
-mul-number-3 c = search needs
+array-read-pair-2 : tie.Need-array-read-pair-2 Inv-loop μ-loop
+array-read-pair-2 c = search needs
 
-array-read-number-3 : tie.Need-array-read-number-3 Inv-loop μ-loop
-array-read-number-3 c = search needs
-
-number-requires-3 : tie.Need-number-requires-3 Inv-loop μ-loop
-number-requires-3 c κs = search needs
+pair-requires : tie.Need-pair-requires Inv-loop μ-loop
+pair-requires c κs = search needs
 
 add-i : tie.Need-add-i Inv-loop μ-loop
 add-i c = search needs
@@ -52,9 +47,6 @@ loop-less c = search needs
 
 loop-again : tie.Need-loop-again Inv-loop μ-loop
 loop-again c = search needs
-
-same-length : tie.Need-same-length Inv-loop μ-loop
-same-length c = search needs
 
 returns : tie.Need-returns Inv-loop μ-loop
 returns c = search needs
@@ -70,14 +62,12 @@ print-held-spec =
     mul-number
     array-read-number
     number-requires
-    mul-number-2
-    array-read-number-2
-    number-requires-2
-    mul-number-3
-    array-read-number-3
-    number-requires-3
+    mul-pair
+    array-read-pair
+    mul-pair-2
+    array-read-pair-2
+    pair-requires
     add-i
     loop-less
     loop-again
-    same-length
     returns)

@@ -4,10 +4,10 @@ use Rattle.replay.proofs.messages.span.Statement.{statement}
 use Rattle.replay.proofs.messages.span.Tie as tie
 
 abbrev Inv-loop : tie.InvT-loop
-Inv-loop ns out pairs span₀ left₀ i₀ span left i = i ≤ pairs
+Inv-loop ns pairs span₀ left₀ i₀ span left i = i ≤ pairs
 
 abbrev μ-loop : tie.MeasureT-loop
-μ-loop ns out pairs span₀ left₀ i₀ span left i = pairs - i
+μ-loop ns pairs span₀ left₀ i₀ span left i = pairs - i
 
 new-requires : tie.Need-new-requires Inv-loop μ-loop
 new-requires c κs = search needs
@@ -15,14 +15,14 @@ new-requires c κs = search needs
 loop-holds : tie.Need-loop-holds Inv-loop μ-loop
 loop-holds c = search needs
 
-mul-t11 : tie.Need-mul-t11 Inv-loop μ-loop
-mul-t11 c = search needs
+mul-t9 : tie.Need-mul-t9 Inv-loop μ-loop
+mul-t9 c = search needs
 
-mul-t12 : tie.Need-mul-t12 Inv-loop μ-loop
-mul-t12 c = search needs
+mul-t10 : tie.Need-mul-t10 Inv-loop μ-loop
+mul-t10 c = search needs
 
-shared-slice-read-t14 : tie.Need-shared-slice-read-t14 Inv-loop μ-loop
-shared-slice-read-t14 c = search needs
+shared-slice-read-t12 : tie.Need-shared-slice-read-t12 Inv-loop μ-loop
+shared-slice-read-t12 c = search needs
 
 mul-add : tie.Need-mul-add Inv-loop μ-loop
 mul-add c = search needs
@@ -57,9 +57,6 @@ spanned-requires c κs = search needs
 number-requires : tie.Need-number-requires Inv-loop μ-loop
 number-requires c κs = search needs
 
-same-length : tie.Need-same-length Inv-loop μ-loop
-same-length c = search needs
-
 returns : tie.Need-returns Inv-loop μ-loop
 returns c = search needs
 
@@ -71,9 +68,9 @@ span-spec =
     μ-loop
     new-requires
     loop-holds
-    mul-t11
-    mul-t12
-    shared-slice-read-t14
+    mul-t9
+    mul-t10
+    shared-slice-read-t12
     mul-add
     add-add
     mul-add-2
@@ -85,5 +82,4 @@ span-spec =
     loop-again
     spanned-requires
     number-requires
-    same-length
     returns)

@@ -1,13 +1,13 @@
 use borrow.Author.Needs.{needs}
 use Prim.Native.Nat.{_-_, _≤_}
-use Rattle.replay.proofs.numbers.bytes_in.Statement.{statement}
-use Rattle.replay.proofs.numbers.bytes_in.Tie as tie
+use Rattle.replay.proofs.numbers.all_within.Statement.{statement}
+use Rattle.replay.proofs.numbers.all_within.Tie as tie
 
 abbrev Inv-loop : tie.InvT-loop
-Inv-loop numbers from to i₀ i = 0 ≤ i
+Inv-loop numbers from to most i₀ i = 0 ≤ i
 
 abbrev μ-loop : tie.MeasureT-loop
-μ-loop numbers from to i₀ i = to - i
+μ-loop numbers from to most i₀ i = to - i
 
 loop-holds : tie.Need-loop-holds Inv-loop μ-loop
 loop-holds c = search needs
@@ -30,8 +30,8 @@ loop-again c = search needs
 returns-2 : tie.Need-returns-2 Inv-loop μ-loop
 returns-2 c = search needs
 
-pub bytes-in-spec : {M : Type 1} → statement M
-bytes-in-spec =
+pub all-within-spec : {M : Type 1} → statement M
+all-within-spec =
     tie.close
     (tie.spec
     Inv-loop

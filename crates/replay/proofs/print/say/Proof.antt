@@ -1,0 +1,63 @@
+use borrow.Author.Needs.{needs}
+use Prim.Native.Nat.{_≤_}
+use lib.ListN.{length}
+use mathlib.Core.Path.{_≡_}
+use Rattle.replay.proofs.print.say.Statement.{statement}
+use Rattle.replay.proofs.print.say.Tie as tie
+
+abbrev Inv-loop : tie.InvT-loop
+Inv-loop word letters₀ rest₀ from₀ letters rest from = (length letters ≡ 8) × (from ≤ 8)
+
+abbrev μ-loop : tie.MeasureT-loop
+μ-loop word letters₀ rest₀ from₀ letters rest from = from
+
+loop-holds : tie.Need-loop-holds Inv-loop μ-loop
+loop-holds c = search needs
+
+sub-from : tie.Need-sub-from Inv-loop μ-loop
+sub-from c = search needs
+
+cast-letters : tie.Need-cast-letters Inv-loop μ-loop
+cast-letters c = search needs
+
+array-write-letters : tie.Need-array-write-letters Inv-loop μ-loop
+array-write-letters c = search needs
+
+loop-less : tie.Need-loop-less Inv-loop μ-loop
+loop-less c = search needs
+
+loop-again : tie.Need-loop-again Inv-loop μ-loop
+loop-again c = search needs
+
+sub-write-all : tie.Need-sub-write-all Inv-loop μ-loop
+sub-write-all c = search needs
+
+part-write-all-start : tie.Need-part-write-all-start Inv-loop μ-loop
+part-write-all-start c = search needs
+
+part-write-all-end : tie.Need-part-write-all-end Inv-loop μ-loop
+part-write-all-end c = search needs
+
+write-all-requires : tie.Need-write-all-requires Inv-loop μ-loop
+write-all-requires c κs = search needs
+
+returns : tie.Need-returns Inv-loop μ-loop
+returns c = search needs
+
+pub say-spec : {M : Type 1} → statement M
+say-spec =
+    tie.close
+    (tie.spec
+    Inv-loop
+    μ-loop
+    loop-holds
+    sub-from
+    cast-letters
+    array-write-letters
+    loop-less
+    loop-again
+    sub-write-all
+    part-write-all-start
+    part-write-all-end
+    write-all-requires
+    returns)
