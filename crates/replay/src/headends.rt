@@ -1,10 +1,9 @@
 // The calls on one headend: each prints its answer and gives the headend after it.
-ghost use Prim.Native.Nat.{_≤_};
+use crate::numbers::at_most;
 use crate::numbers::backoff_at;
 use crate::numbers::byte_at;
 use crate::numbers::column;
 use crate::numbers::number_at;
-use crate::numbers::room_at;
 use crate::print::backoff;
 use crate::print::hex;
 use crate::print::number;
@@ -36,22 +35,12 @@ pub fn call(h: Headend, word: u64, ns: &[u32]) -> Headend {
     }
 }
 
-// How many places print: never more than there are.
-fn places(held: u32) -> usize
-    ensures { λ r. ⌜ r ≤ 64 ⌝ }
-{
-    if 64 < held {
-        return 64;
-    }
-    held as usize
-}
-
 // The held requests, three numbers each.
 fn print_held(h: Headend) {
     let sids = h.sids;
     let sizes = h.sizes;
     let firsts = h.firsts;
-    let n = places(h.held);
+    let n = at_most(h.held as usize, 64);
     let mut i = 0;
     while i < n {
         number(sids[i]);
@@ -144,7 +133,7 @@ fn issued(answer: Issued) {
 // The answer, what the lent bytes hold then, and the headend.
 fn issue(h: Headend, ns: &[u32]) -> Headend {
     let mut bytes = [0xA5u8; 1000];
-    let room = room_at(ns, 4);
+    let room = at_most(number_at(ns, 4) as usize, 1000);
     let lent = &mut bytes[0..room];
     let ack = MiniSlot(number_at(ns, 1));
     let issuing = h.issue(ack, number_at(ns, 2), number_at(ns, 3), lent);

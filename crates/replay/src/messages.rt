@@ -1,10 +1,10 @@
 // The calls on messages and on times: each prints its answer.
-ghost use Prim.Native.Nat.{_≤_};
+use crate::numbers::at_most;
 use crate::numbers::backoff_at;
+use crate::numbers::behind;
 use crate::numbers::byte_at;
 use crate::numbers::column;
 use crate::numbers::number_at;
-use crate::numbers::room_at;
 use crate::print::backoff;
 use crate::print::hex;
 use crate::print::none;
@@ -77,19 +77,6 @@ fn fields_in(ns: &[u32]) -> Fields {
     }
 }
 
-// How many elements, of at most 241, follow the nine numbers of the header.
-fn elements(n: usize) -> usize
-    ensures { λ r. ⌜ r ≤ 241 ⌝ }
-{
-    if n < 9 {
-        return 0;
-    }
-    if 732 < n {
-        return 241;
-    }
-    (n - 9) / 3
-}
-
 // One of the three columns of elements.
 fn parts(ns: &[u32], from: usize) -> [u32; 241] {
     let mut parts = [0u32; 241];
@@ -101,7 +88,7 @@ fn written(ns: &[u32], lent: &mut [u8]) -> Written {
     let sids = parts(ns, 9);
     let uses = parts(ns, 10);
     let offsets = parts(ns, 11);
-    let n = elements(ns.len());
+    let n = at_most(behind(ns.len(), 9) / 3, 241);
     writer::write(
         fields_in(ns),
         &sids[0..n],
@@ -124,7 +111,7 @@ fn wrote(answer: Written) {
 // The answer, and then what the lent bytes hold.
 fn write(ns: &[u32]) {
     let mut bytes = [0xA5u8; 1000];
-    let room = room_at(ns, 0);
+    let room = at_most(number_at(ns, 0) as usize, 1000);
     let lent = &mut bytes[0..room];
     wrote(written(ns, lent));
     space();
@@ -167,17 +154,16 @@ fn spanned(span: Span) {
 }
 
 fn span(ns: &[u32]) {
-    let pairs = ns.len() / 2;
     let mut span = Span::new();
     let mut left: u32 = 0;
     let mut i = 0;
-    while i < pairs {
-        let added = span.add(MiniSlot(ns[2 * i]), ns[2 * i + 1]);
+    while i < ns.len() {
+        let added = span.add(MiniSlot(number_at(ns, i)), number_at(ns, i + 1));
         if !added.taken {
             left = std::num::wrapping_add_u32(left, 1);
         }
         span = added.span;
-        i += 1;
+        i += 2;
     }
     spanned(span);
     number(left);

@@ -3,7 +3,7 @@
 ghost use Prim.Native.Nat.{_≤_};
 use message::Backoff;
 
-// The front of what was lent, as far as the line filled it.
+// The front of the numbers, as far as the line filled them.
 pub fn first_numbers(numbers: &[u32], n: usize) -> &[u32] {
     if numbers.len() < n {
         return numbers;
@@ -18,6 +18,23 @@ pub fn first_bytes(bytes: &[u8], n: usize) -> &[u8] {
     &bytes[0..n]
 }
 
+pub fn at_most(n: usize, most: usize) -> usize
+    ensures { λ r. ⌜ r ≤ most ⌝ }
+{
+    if most < n {
+        return most;
+    }
+    n
+}
+
+// How many of n are left behind the first ones.
+pub fn behind(n: usize, first: usize) -> usize {
+    if n < first {
+        return 0;
+    }
+    n - first
+}
+
 // The number at a place; 0 where the numbers end before it.
 pub fn number_at(numbers: &[u32], i: usize) -> u32 {
     if i < numbers.len() {
@@ -28,13 +45,6 @@ pub fn number_at(numbers: &[u32], i: usize) -> u32 {
 
 pub fn byte_at(numbers: &[u32], i: usize) -> u8 {
     (number_at(numbers, i) % 256) as u8
-}
-
-// The bytes that a call asks to be lent.
-pub fn room_at(numbers: &[u32], i: usize) -> usize
-    ensures { λ r. ⌜ r ≤ 1000 ⌝ }
-{
-    (number_at(numbers, i) % 1001) as usize
 }
 
 pub fn backoff_at(numbers: &[u32], start: usize, end: usize) -> Backoff {

@@ -1,5 +1,6 @@
 // The call on a part of the station places, which hear one MAP together.
-ghost use Prim.Native.Nat.{_≤_};
+use crate::numbers::at_most;
+use crate::numbers::behind;
 use crate::numbers::number_at;
 use crate::print::number;
 use crate::print::numbers;
@@ -8,19 +9,6 @@ use crate::words;
 use slots::MiniSlot;
 use station::Station;
 use table::hear_forty;
-
-// How many draws, of at most 40, follow the four numbers.
-fn given_draws(n: usize) -> usize
-    ensures { λ r. ⌜ r ≤ 40 ⌝ }
-{
-    if n < 4 {
-        return 0;
-    }
-    if 44 < n {
-        return 40;
-    }
-    n - 4
-}
 
 // The numbers from the fifth on; 0 where none is given.
 fn draws_in(ns: &[u32]) -> [u16; 40] {
@@ -36,9 +24,9 @@ fn draws_in(ns: &[u32]) -> [u16; 40] {
 // The answer, and then what the places hold.
 pub fn call(stations: [Station; 40], ns: &[u32], bytes: &[u8]) -> [Station; 40] {
     let given = draws_in(ns);
-    let n = given_draws(ns.len());
+    let n = at_most(behind(ns.len(), 4), 40);
     let draws = &given[0..n];
-    let room = (number_at(ns, 3) % 41) as usize;
+    let room = at_most(number_at(ns, 3) as usize, 40);
     let mut answers = [9999u32; 40];
     let places = &mut answers[0..room];
     let first = number_at(ns, 0) as usize;

@@ -9,8 +9,11 @@ Inv-loop sids sizes firsts n i₀ i = (i ≤ n) × (n ≤ 64)
 abbrev μ-loop : tie.MeasureT-loop
 μ-loop sids sizes firsts n i₀ i = n - i
 
-places-requires : tie.Need-places-requires Inv-loop μ-loop
-places-requires c κs = search needs
+cast-at-most : tie.Need-cast-at-most Inv-loop μ-loop
+cast-at-most c = search needs
+
+at-most-requires : tie.Need-at-most-requires Inv-loop μ-loop
+at-most-requires c κs = search needs
 
 loop-holds : tie.Need-loop-holds Inv-loop μ-loop
 loop-holds c = search needs
@@ -57,7 +60,8 @@ print-held-spec =
     (tie.spec
     Inv-loop
     μ-loop
-    places-requires
+    cast-at-most
+    at-most-requires
     loop-holds
     mul-number
     array-read-number

@@ -1,13 +1,14 @@
 use borrow.Author.Needs.{needs}
 use Prim.Native.Nat.{_-_, _≤_}
+use lib.ListN.{length}
 use Rattle.replay.proofs.messages.span.Statement.{statement}
 use Rattle.replay.proofs.messages.span.Tie as tie
 
 abbrev Inv-loop : tie.InvT-loop
-Inv-loop ns pairs span₀ left₀ i₀ span left i = i ≤ pairs
+Inv-loop ns span₀ left₀ i₀ span left i = 0 ≤ i
 
 abbrev μ-loop : tie.MeasureT-loop
-μ-loop ns pairs span₀ left₀ i₀ span left i = pairs - i
+μ-loop ns span₀ left₀ i₀ span left i = length ns - i
 
 new-requires : tie.Need-new-requires Inv-loop μ-loop
 new-requires c κs = search needs
@@ -15,26 +16,14 @@ new-requires c κs = search needs
 loop-holds : tie.Need-loop-holds Inv-loop μ-loop
 loop-holds c = search needs
 
-mul-t9 : tie.Need-mul-t9 Inv-loop μ-loop
-mul-t9 c = search needs
+number-at-requires : tie.Need-number-at-requires Inv-loop μ-loop
+number-at-requires c κs = search needs
 
-mul-t10 : tie.Need-mul-t10 Inv-loop μ-loop
-mul-t10 c = search needs
+add-number-at : tie.Need-add-number-at Inv-loop μ-loop
+add-number-at c = search needs
 
-shared-slice-read-t12 : tie.Need-shared-slice-read-t12 Inv-loop μ-loop
-shared-slice-read-t12 c = search needs
-
-mul-add : tie.Need-mul-add Inv-loop μ-loop
-mul-add c = search needs
-
-add-add : tie.Need-add-add Inv-loop μ-loop
-add-add c = search needs
-
-mul-add-2 : tie.Need-mul-add-2 Inv-loop μ-loop
-mul-add-2 c = search needs
-
-shared-slice-read-add : tie.Need-shared-slice-read-add Inv-loop μ-loop
-shared-slice-read-add c = search needs
+number-at-requires-2 : tie.Need-number-at-requires-2 Inv-loop μ-loop
+number-at-requires-2 c κs = search needs
 
 add-requires : tie.Need-add-requires Inv-loop μ-loop
 add-requires c κs = search needs
@@ -68,13 +57,9 @@ span-spec =
     μ-loop
     new-requires
     loop-holds
-    mul-t9
-    mul-t10
-    shared-slice-read-t12
-    mul-add
-    add-add
-    mul-add-2
-    shared-slice-read-add
+    number-at-requires
+    add-number-at
+    number-at-requires-2
     add-requires
     wrapping-add-u32-requires
     add-i
