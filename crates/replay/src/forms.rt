@@ -51,7 +51,10 @@ fn takes_numbers(word: u64, n: usize) -> bool {
     }
 }
 
-fn write_in_range(ns: &[u32]) -> bool {
+fn message_in_range(word: u64, ns: &[u32]) -> bool {
+    if word != words::WRITE {
+        return true;
+    }
     (number_at(ns, 0) <= 1000) & all_within(ns, 1, 3, 255) & all_within(ns, 5, 9, 255)
 }
 
@@ -88,16 +91,11 @@ fn headend_in_range(word: u64, ns: &[u32]) -> bool {
 }
 
 fn in_range(word: u64, ns: &[u32]) -> bool {
-    match word {
-        words::WRITE => write_in_range(ns),
-        words::STATION | words::RECORD | words::SHOW | words::OFFER | words::HEAR => {
-            station_in_range(word, ns)
-        }
-        words::TABLE => table_in_range(ns),
-        words::HEADEND | words::HOLDING | words::HELD | words::REQUEST | words::ISSUE => {
-            headend_in_range(word, ns)
-        }
-        _ => true,
+    match kept_at(word) {
+        Kept::Station => station_in_range(word, ns),
+        Kept::Stations => table_in_range(ns),
+        Kept::Headend => headend_in_range(word, ns),
+        Kept::Nothing => message_in_range(word, ns),
     }
 }
 

@@ -10,7 +10,6 @@ use crate::print::number;
 use crate::print::pair;
 use crate::print::refused;
 use crate::print::say;
-use crate::print::space;
 use crate::words;
 use headend::Headend;
 use headend::Issued;
@@ -139,7 +138,7 @@ fn issue(h: Headend, ns: &[u32]) -> Headend {
     let issuing = h.issue(ack, number_at(ns, 2), number_at(ns, 3), lent);
     let answer = issuing.answer;
     issued(answer);
-    space();
+    say(words::SPACE);
     hex(lent);
     print(issuing.headend);
     issuing.headend

@@ -14,11 +14,13 @@ mod stations;
 mod tables;
 mod words;
 
+use forms::called;
 use line::bytes_of;
 use line::end_before;
 use line::parse;
+use numbers::first_bytes;
+use numbers::first_numbers;
 use places::Places;
-use print::end_line;
 use print::say;
 
 const MOST_INPUT: usize = 1048576;
@@ -26,8 +28,12 @@ const MOST_INPUT: usize = 1048576;
 // The places after one line.
 fn answered(places: Places, line: &[u8]) -> Places {
     let parsed = parse(line);
-    let bytes = bytes_of(line, parsed.digits);
-    places.answer(parsed, bytes)
+    let given = bytes_of(line, parsed.digits);
+    let numbers = parsed.numbers;
+    let bytes = given.bytes;
+    let ns = first_numbers(&numbers, parsed.count);
+    let word = called(parsed, given.size, ns);
+    places.call(word, ns, first_bytes(&bytes, given.size))
 }
 
 // An empty line has no answer.
@@ -38,7 +44,7 @@ fn run(script: &[u8]) {
         let end = end_before(script, at, b'\n');
         if at < end {
             places = answered(places, &script[at..end]);
-            end_line();
+            say(words::LINE_END);
         }
         at = end + 1;
     }
@@ -57,7 +63,7 @@ fn main() {
     let n = io::read_full(0, &mut input);
     if MOST_INPUT < n {
         say(words::BAD);
-        end_line();
+        say(words::LINE_END);
         return;
     }
     run(&input[..n]);

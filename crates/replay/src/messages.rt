@@ -12,7 +12,6 @@ use crate::print::number;
 use crate::print::pair;
 use crate::print::refused;
 use crate::print::say;
-use crate::print::space;
 use crate::words;
 use message::Fields;
 use message::Granted;
@@ -114,7 +113,7 @@ fn write(ns: &[u32]) {
     let room = at_most(number_at(ns, 0) as usize, 1000);
     let lent = &mut bytes[0..room];
     wrote(written(ns, lent));
-    space();
+    say(words::SPACE);
     hex(lent);
 }
 

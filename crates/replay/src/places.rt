@@ -1,13 +1,8 @@
 // The numbered places, which keep stations and headends from call to call.
 use crate::forms::Kept;
-use crate::forms::called;
 use crate::forms::kept_at;
 use crate::headends;
-use crate::line::Bytes;
-use crate::line::Line;
 use crate::messages;
-use crate::numbers::first_bytes;
-use crate::numbers::first_numbers;
 use crate::numbers::number_at;
 use crate::stations;
 use crate::tables;
@@ -29,15 +24,7 @@ impl Places {
         }
     }
 
-    pub fn answer(self, line: Line, given: Bytes) -> Places {
-        let numbers = line.numbers;
-        let bytes = given.bytes;
-        let ns = first_numbers(&numbers, line.count);
-        let word = called(line, given.size, ns);
-        self.call(word, ns, first_bytes(&bytes, given.size))
-    }
-
-    fn call(self, word: u64, ns: &[u32], bytes: &[u8]) -> Places {
+    pub fn call(self, word: u64, ns: &[u32], bytes: &[u8]) -> Places {
         match kept_at(word) {
             Kept::Station => self.at_station(word, ns, bytes),
             Kept::Stations => self.at_stations(ns, bytes),

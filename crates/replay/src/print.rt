@@ -4,15 +4,7 @@ use crate::words;
 use message::Backoff;
 use message::Refusal;
 
-pub fn space() {
-    io::write_all(1, b" ");
-}
-
-pub fn end_line() {
-    io::write_all(1, b"\n");
-}
-
-// The letters of a word.
+// The letters of a word, or another mark.
 pub fn say(word: u64) {
     let mut letters = [0u8; 8];
     let mut rest = word;
@@ -30,7 +22,7 @@ pub fn say(word: u64) {
 
 // A space and the number.
 pub fn number(n: u32) {
-    space();
+    say(words::SPACE);
     io::print_decimal(1, n as u64);
 }
 
@@ -53,7 +45,7 @@ pub fn backoff(b: Backoff) {
 
 // In the place of a number.
 pub fn none() {
-    space();
+    say(words::SPACE);
     say(words::NONE);
 }
 
@@ -62,7 +54,7 @@ fn digits(byte: u8) {
 }
 
 pub fn hex(bytes: &[u8]) {
-    io::write_all(1, b"x");
+    say(words::HEX);
     let mut i = 0;
     while i < bytes.len() {
         digits(bytes[i]);

@@ -60,6 +60,13 @@ pub const ISSUED: u64 = 0x697373756564;
 
 pub const BAD: u64 = 0x626164;
 
+// Marks that are no words.
+pub const SPACE: u64 = 0x20;
+
+pub const LINE_END: u64 = 0x0A;
+
+pub const HEX: u64 = 0x78;
+
 // Larger than the number of any word of seven letters.
 pub const UNKNOWN: u64 = 0x100000000000000;
 

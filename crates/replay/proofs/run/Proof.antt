@@ -31,8 +31,8 @@ part-answered-end c = search needs
 answered-requires : tie.Need-answered-requires Inv-loop μ-loop
 answered-requires c κs = search needs
 
-end-line-requires : tie.Need-end-line-requires Inv-loop μ-loop
-end-line-requires c κs = search needs
+say-requires : tie.Need-say-requires Inv-loop μ-loop
+say-requires c κs = search needs
 
 add-at : tie.Need-add-at Inv-loop μ-loop
 add-at c = search needs
@@ -59,7 +59,7 @@ run-spec =
     part-answered-start
     part-answered-end
     answered-requires
-    end-line-requires
+    say-requires
     add-at
     loop-less
     loop-again
