@@ -30,6 +30,7 @@ pub fn call(h: Headend, word: u64, ns: &[u32]) -> Headend {
         words::HOLDING => shown(holding(ns)),
         words::REQUEST => request(h, ns),
         words::ISSUE => issue(h, ns),
+        // Only `held` is left.
         _ => shown(h),
     }
 }

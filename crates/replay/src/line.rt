@@ -72,7 +72,7 @@ fn with_digit(number: u64, digit: u8) -> u64 {
     number * 10 + ((digit - b'0') as u64)
 }
 
-// Of so many digits.
+// What so many digits made: no number where there were none, or more than ten.
 fn number_of(number: u64, digits: usize) -> u64 {
     if (digits == 0) | (10 < digits) {
         return NO_NUMBER;
@@ -109,6 +109,7 @@ fn byte_of(high: u8, low: u8) -> u32 {
     high * 16 + low
 }
 
+// The bytes with one more; NO_BYTES from the first on that is none or has no room.
 fn with_byte(made: Bytes, byte: u32) -> Bytes {
     let mut made = made;
     let mut bytes = made.bytes;
@@ -141,6 +142,7 @@ pub fn bytes_of(line: &[u8], from: usize) -> Bytes {
     made
 }
 
+// The token from a place on.
 fn token_at(line: &[u8], from: usize) -> Token
     requires { ⌜ from ≤ length (now line) ⌝ }
     ensures { λ r. ⌜ (from ≤ r .end) × (r .end ≤ length (now (line .entry))) ⌝ }

@@ -1,5 +1,4 @@
 // The parts of an answer, to standard output.
-ghost use Prim.Native.Nat.{_≤_};
 use crate::words;
 use message::Backoff;
 use message::Refusal;
@@ -49,6 +48,7 @@ pub fn none() {
     say(words::NONE);
 }
 
+// A function of its own: that a byte is under 256 is known of a parameter, not of what a slice holds.
 fn digits(byte: u8) {
     io::print_hex(1, byte as u64, 2);
 }

@@ -34,6 +34,7 @@ pub fn call(st: Station, word: u64, ns: &[u32], bytes: &[u8]) -> Station {
         words::RECORD => shown(record(ns)),
         words::OFFER => offer(st, ns),
         words::HEAR => hear(st, ns, bytes),
+        // Only `show` is left.
         _ => shown(st),
     }
 }
