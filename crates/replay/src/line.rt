@@ -110,8 +110,7 @@ fn byte_of(high: u8, low: u8) -> u32 {
 }
 
 // The bytes with one more; NO_BYTES from the first on that is none or has no room.
-fn with_byte(made: Bytes, byte: u32) -> Bytes {
-    let mut made = made;
+fn with_byte(mut made: Bytes, byte: u32) -> Bytes {
     let mut bytes = made.bytes;
     let size = made.size;
     if 255 < byte {
@@ -165,8 +164,7 @@ fn token_at(line: &[u8], from: usize) -> Token
 }
 
 // The line with one number more.
-fn with_number(line: Line, number: u64) -> Line {
-    let mut line = line;
+fn with_number(mut line: Line, number: u64) -> Line {
     let mut numbers = line.numbers;
     let count = line.count;
     if LARGEST < number {
@@ -185,8 +183,7 @@ fn with_number(line: Line, number: u64) -> Line {
 
 // The line with one token more: of its first letter, its number, and the place of its second letter.
 // One behind the hex token is passed over: the digits, up to the line's end, have a space then.
-fn with_token(line: Line, letter: u8, number: u64, second: usize) -> Line {
-    let mut line = line;
+fn with_token(mut line: Line, letter: u8, number: u64, second: usize) -> Line {
     if line.hex {
         return line;
     }

@@ -36,29 +36,26 @@ impl Places {
         }
     }
 
-    fn at_station(self, word: u64, ns: &[u32], bytes: &[u8]) -> Places {
-        let mut places = self;
-        let mut stations = places.stations;
+    fn at_station(mut self, word: u64, ns: &[u32], bytes: &[u8]) -> Places {
+        let mut stations = self.stations;
         let i = (number_at(ns, 0) % 40) as usize;
         stations[i] = stations::call(stations[i], word, ns, bytes);
-        places.stations = stations;
-        places
+        self.stations = stations;
+        self
     }
 
-    fn at_stations(self, ns: &[u32], bytes: &[u8]) -> Places {
-        let mut places = self;
-        let before = places.stations;
+    fn at_stations(mut self, ns: &[u32], bytes: &[u8]) -> Places {
+        let before = self.stations;
         let stations = tables::call(before, ns, bytes);
-        places.stations = stations;
-        places
+        self.stations = stations;
+        self
     }
 
-    fn at_headend(self, word: u64, ns: &[u32]) -> Places {
-        let mut places = self;
-        let mut headends = places.headends;
+    fn at_headend(mut self, word: u64, ns: &[u32]) -> Places {
+        let mut headends = self.headends;
         let i = (number_at(ns, 0) % 4) as usize;
         headends[i] = headends::call(headends[i], word, ns);
-        places.headends = headends;
-        places
+        self.headends = headends;
+        self
     }
 }
