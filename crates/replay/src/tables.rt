@@ -6,9 +6,9 @@ use crate::print::number;
 use crate::print::numbers;
 use crate::print::say;
 use crate::words;
+use lent::hear_forty;
 use slots::MiniSlot;
 use station::Station;
-use table::hear_forty;
 
 // The numbers from the fifth on; 0 where none is given.
 fn draws_in(ns: &[u32]) -> [u16; 40] {

@@ -5,4 +5,3 @@ pub mod Scan
 pub mod Steps
 pub mod Hearing
 pub mod Offering
-pub mod InPlace

@@ -1,7 +1,6 @@
 // A modem's station for one SID: when it may speak.
 pub mod backoff;
 pub mod hearing;
-pub mod in_place;
 pub mod offering;
 pub mod opportunity;
 pub mod record;

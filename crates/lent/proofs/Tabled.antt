@@ -12,9 +12,9 @@ use borrow.Author.Tests.{lt-ltb, le-ltb, ltb-true, ltb-false}
 use Rattle.station.specs.Offering.{fresh}
 use Rattle.station.specs.declared.record.Station.{Station}
 use Rattle.station.specs.declared.record.Hearing.{Hearing}
-use Rattle.table.specs.Table.{tableFault, fitOf, numberIn, placed, placedOf, recordsAfter, placesAfter, tableOf, placesOf}
-use Rattle.table.specs.declared.table.Fit.{Fit}
-use Rattle.table.specs.declared.table.Placed.{Placed}
+use Rattle.lent.specs.Table.{tableFault, fitOf, numberIn, placed, placedOf, recordsAfter, placesAfter, tableOf, placesOf}
+use Rattle.lent.specs.declared.table.Fit.{Fit}
+use Rattle.lent.specs.declared.table.Placed.{Placed}
 
 -- `fits`: one law for each way through
 pub fit-over : (t d p : ℕ) → 32 < t → _≡_ {A = Fit} (record { n = 0; code = 17 }) (fitOf t d p)

@@ -1,4 +1,4 @@
--- `Station::hear_in_place` meets its contract: a walk of its MIR, by hand. The borrow is opened, the record is copied out, `hear` is called on the copy, its record is stored back and the borrow is closed there.
+-- `hear_in_place` meets its contract: a walk of its MIR, by hand. The borrow is opened, the record is copied out, `hear` is called on the copy, its record is stored back and the borrow is closed there.
 -- Assumes nothing.
 use mathlib.Core.Path.{_≡_, refl, ap}
 use Prim.Native.Nat.{ℕ, _<_, _^_}
@@ -42,27 +42,27 @@ use denote.Triple.Spec.{Meets, tripleOf}
 use denote.Triple.Table.{entered, cited}
 use denote.Triple.Walked.{says, Stays, stay-ref, stay-none, stay-none-slice, walkOf, goes-ref, goes-none, goes-none-slice, Walks, ends-at, walked, walk-meets}
 use denote.Exit.{yes}
 use Rattle.station.specs.Hearing.{hearOf}
 use Rattle.slots.specs.declared.time.MiniSlot.{MiniSlot}
 use Rattle.slots.proofs.time.MiniSlot as N
 use Rattle.slots.proofs.time.MiniSlot.Laws as N′
 use Rattle.station.specs.declared.record.Station.{Station}
 use Rattle.station.specs.declared.record.Hearing.{Hearing}
 use Rattle.station.proofs.record.Station as T
 use Rattle.station.proofs.record.Station.Laws as T′
 use Rattle.station.proofs.record.Hearing as R
 use Rattle.station.proofs.record.Hearing.Laws as R′
 use Rattle.station.specs.declared.record.Answer.{Answer}
 use Rattle.station.proofs.record.Answer as S
 use Rattle.station.proofs.record.Answer.Laws as S′
 use Rattle.station.proofs.record.Station.hear as hear
 use Rattle.station.proofs.record.Station.hear.Symbol as hear-def
 use Rattle.station.proofs.record.Station.hear.Symbol.{name as #hear}
 use Rattle.station.proofs.record.Station.hear.Met as hear-thm
-use Rattle.station.proofs.record.Station.hear_in_place.Key.{name as #hear-in-place}
-use Rattle.station.proofs.record.Station.hear_in_place as this
-use Rattle.station.proofs.record.Station.hear_in_place.Statement as stated
-use Rattle.station.proofs.record.Station.hear_in_place.Code as code
+use Rattle.lent.proofs.in_place.hear_in_place.Key.{name as #hear-in-place}
+use Rattle.lent.proofs.in_place.hear_in_place as this
+use Rattle.lent.proofs.in_place.hear_in_place.Statement as stated
+use Rattle.lent.proofs.in_place.hear_in_place.Code as code
 
 abbrev stayed : Stays (this.ended .signature .params) (this.ended .kept)
 stayed = (stay-ref (0 ∷ []) tt (plain (λ _. T.the-row)), (stay-none-slice (1 ∷ []) tt (plain (λ _. u8)) yes, (stay-none (λ _. N.the-row) yes, (stay-none (λ _. u16) yes, tt))))

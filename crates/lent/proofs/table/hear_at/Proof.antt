@@ -1,7 +1,7 @@
-use Rattle.table.proofs.Tabled.{as-placed}
+use Rattle.lent.proofs.Tabled.{as-placed}
 use borrow.Author.Needs.{needs}
-use Rattle.table.proofs.table.hear_at.Statement.{statement}
-use Rattle.table.proofs.table.hear_at.Tie as tie
+use Rattle.lent.proofs.table.hear_at.Statement.{statement}
+use Rattle.lent.proofs.table.hear_at.Tie as tie
 
 mul-hear : tie.Need-mul-hear
 mul-hear c = search needs

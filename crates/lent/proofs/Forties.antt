@@ -18,9 +18,9 @@ use types.SemTy.{SemTy, cells}
 use denote.Steps.{nothing}
 use denote.Index.{place}
 use Rattle.station.specs.declared.record.Station.{Station}
-use Rattle.table.specs.Table.{tableFault, answerOf, placesOf}
-use Rattle.table.specs.Forty.{windowOf, lentOf, fortyAfter}
-use Rattle.table.specs.declared.forty.Window.{Window}
+use Rattle.lent.specs.Table.{tableFault, answerOf, placesOf}
+use Rattle.lent.specs.Forty.{windowOf, lentOf, fortyAfter}
+use Rattle.lent.specs.declared.forty.Window.{Window}
 
 pub window-past : (i c : ℕ) → 40 < i → _≡_ {A = Window} (record { from = 0; to = 40 }) (windowOf i c)
 unfolding windowOf

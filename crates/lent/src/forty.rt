@@ -1,6 +1,6 @@
 // Forty records by value, of which a part is lent as a table.
 ghost use mathlib.Core.Path.{_≡_};
-ghost use Rattle.table.specs.Forty.{windowOf, HearsForty};
+ghost use Rattle.lent.specs.Forty.{windowOf, HearsForty};
 use crate::table::hear_table;
 use slots::MiniSlot;
 use station::Station;

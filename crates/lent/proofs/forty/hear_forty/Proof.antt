@@ -55,31 +55,31 @@ use Rattle.slots.proofs.time.MiniSlot.Laws as N′
 use Rattle.station.specs.declared.record.Station.{Station}
 use Rattle.station.proofs.record.Station as T
 use Rattle.station.proofs.record.Station.Laws as T′
-use Rattle.table.specs.Table.{answerOf, tableOf, placesOf}
-use Rattle.table.specs.Forty.{windowOf, HearsForty}
-use Rattle.table.specs.declared.forty.Window.{Window}
-use Rattle.table.specs.declared.forty.Forty.{Forty}
-use Rattle.table.proofs.Forties.{window-inside, cells-cut, cells-join}
-use Rattle.table.proofs.forty.Window as F
-use Rattle.table.proofs.forty.Window.Laws as F′
-use Rattle.table.proofs.forty.Forty as G
-use Rattle.table.proofs.forty.Forty.Laws as G′
-use Rattle.table.proofs.table.hear_table as hear
-use Rattle.table.proofs.table.hear_table.Symbol as hear-def
-use Rattle.table.proofs.table.hear_table.Symbol.{name as #hear}
-use Rattle.table.proofs.table.hear_table.Met as hear-thm
-use Rattle.table.proofs.forty.part_of as part
-use Rattle.table.proofs.forty.part_of.Symbol as part-def
-use Rattle.table.proofs.forty.part_of.Symbol.{name as #part}
-use Rattle.table.proofs.forty.part_of.Met as part-thm
-use Rattle.table.proofs.forty.packed as pack
-use Rattle.table.proofs.forty.packed.Symbol as pack-def
-use Rattle.table.proofs.forty.packed.Symbol.{name as #pack}
-use Rattle.table.proofs.forty.packed.Met as pack-thm
-use Rattle.table.proofs.forty.hear_forty.Key.{name as #this}
-use Rattle.table.proofs.forty.hear_forty as this
-use Rattle.table.proofs.forty.hear_forty.Statement as stated
-use Rattle.table.proofs.forty.hear_forty.Code as code
+use Rattle.lent.specs.Table.{answerOf, tableOf, placesOf}
+use Rattle.lent.specs.Forty.{windowOf, HearsForty}
+use Rattle.lent.specs.declared.forty.Window.{Window}
+use Rattle.lent.specs.declared.forty.Forty.{Forty}
+use Rattle.lent.proofs.Forties.{window-inside, cells-cut, cells-join}
+use Rattle.lent.proofs.forty.Window as F
+use Rattle.lent.proofs.forty.Window.Laws as F′
+use Rattle.lent.proofs.forty.Forty as G
+use Rattle.lent.proofs.forty.Forty.Laws as G′
+use Rattle.lent.proofs.table.hear_table as hear
+use Rattle.lent.proofs.table.hear_table.Symbol as hear-def
+use Rattle.lent.proofs.table.hear_table.Symbol.{name as #hear}
+use Rattle.lent.proofs.table.hear_table.Met as hear-thm
+use Rattle.lent.proofs.forty.part_of as part
+use Rattle.lent.proofs.forty.part_of.Symbol as part-def
+use Rattle.lent.proofs.forty.part_of.Symbol.{name as #part}
+use Rattle.lent.proofs.forty.part_of.Met as part-thm
+use Rattle.lent.proofs.forty.packed as pack
+use Rattle.lent.proofs.forty.packed.Symbol as pack-def
+use Rattle.lent.proofs.forty.packed.Symbol.{name as #pack}
+use Rattle.lent.proofs.forty.packed.Met as pack-thm
+use Rattle.lent.proofs.forty.hear_forty.Key.{name as #this}
+use Rattle.lent.proofs.forty.hear_forty as this
+use Rattle.lent.proofs.forty.hear_forty.Statement as stated
+use Rattle.lent.proofs.forty.hear_forty.Code as code
 
 abbrev vst : Station → List Val
 vst = LL.vals T.the-type T′.the-laws
@@ -348,6 +348,6 @@ hear-forty-spec 𝓤 H 𝓜 𝓖 𝓡 =
     entered 𝓤 H (tripleOf 𝓤 H (𝓖 .A) this.signature (this.spec 𝓤 H (𝓖 .A) (𝓜 .mem) (𝓡 .run)))
     (tables 𝓤 H 𝓜 𝓡 code.env .C) (tables 𝓤 H 𝓜 𝓡 code.env .Λ) #this code.function (code.unfolded 𝓤 H 𝓜 𝓡)
     (meets 𝓤 H (𝓖 .A) (givenOf 𝓤 H 𝓜 𝓖) (𝓜 .mem) (𝓡 .run) (tablesOf 𝓤 H 𝓜 (tables 𝓤 H 𝓜 𝓡 code.env))
-    (cited 𝓤 H (Part 𝓤 H (𝓖 .A) (𝓜 .mem) (𝓡 .run)) 𝓜 𝓡 code.env #part part-def.routine code.calls-table·forty·part-of (part-thm.met 𝓤 H 𝓜 𝓖 𝓡))
-    (cited 𝓤 H (Hear 𝓤 H (𝓖 .A) (𝓜 .mem) (𝓡 .run)) 𝓜 𝓡 code.env #hear hear-def.routine code.calls-table·table·hear-table (hear-thm.met 𝓤 H 𝓜 𝓖 𝓡))
-    (cited 𝓤 H (Pack 𝓤 H (𝓖 .A) (𝓜 .mem) (𝓡 .run)) 𝓜 𝓡 code.env #pack pack-def.routine code.calls-table·forty·packed (pack-thm.met 𝓤 H 𝓜 𝓖 𝓡)))
+    (cited 𝓤 H (Part 𝓤 H (𝓖 .A) (𝓜 .mem) (𝓡 .run)) 𝓜 𝓡 code.env #part part-def.routine code.calls-lent·forty·part-of (part-thm.met 𝓤 H 𝓜 𝓖 𝓡))
+    (cited 𝓤 H (Hear 𝓤 H (𝓖 .A) (𝓜 .mem) (𝓡 .run)) 𝓜 𝓡 code.env #hear hear-def.routine code.calls-lent·table·hear-table (hear-thm.met 𝓤 H 𝓜 𝓖 𝓡))
+    (cited 𝓤 H (Pack 𝓤 H (𝓖 .A) (𝓜 .mem) (𝓡 .run)) 𝓜 𝓡 code.env #pack pack-def.routine code.calls-lent·forty·packed (pack-thm.met 𝓤 H 𝓜 𝓖 𝓡)))

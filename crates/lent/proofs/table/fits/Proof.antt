@@ -1,6 +1,6 @@
-use Rattle.table.proofs.Tabled.{fitting}
-use Rattle.table.proofs.table.fits.Statement.{statement}
-use Rattle.table.proofs.table.fits.Tie as tie
+use Rattle.lent.proofs.Tabled.{fitting}
+use Rattle.lent.proofs.table.fits.Statement.{statement}
+use Rattle.lent.proofs.table.fits.Tie as tie
 
 returns : tie.Need-returns
 returns c = search fitting

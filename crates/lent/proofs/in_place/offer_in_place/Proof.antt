@@ -1,4 +1,4 @@
--- `Station::offer_in_place` meets its contract: a walk of its MIR, by hand. The borrow is opened, the record is copied out, `offer` is called on the copy, its record is stored back and the borrow is closed there.
+-- `offer_in_place` meets its contract: a walk of its MIR, by hand. The borrow is opened, the record is copied out, `offer` is called on the copy, its record is stored back and the borrow is closed there.
 -- Assumes nothing.
 use mathlib.Core.Path.{_≡_, refl, ap}
 use Prim.Native.Nat.{ℕ, _<_, _^_}
@@ -40,24 +40,24 @@ use denote.Triple.Spec.{Meets, tripleOf}
 use denote.Triple.Table.{entered, cited}
 use denote.Triple.Walked.{says, Stays, stay-ref, stay-none, walkOf, goes-ref, goes-none, Walks, ends-at, walked, walk-meets}
 use denote.Exit.{yes}
 use Rattle.station.specs.Offering.{offerOf}
 use Rattle.station.specs.declared.record.Station.{Station}
 use Rattle.station.specs.declared.record.Offering.{Offering}
 use Rattle.station.specs.declared.record.Offered.{Offered}
 use Rattle.station.proofs.record.Station as T
 use Rattle.station.proofs.record.Station.Laws as T′
 use Rattle.station.proofs.record.Offering as R
 use Rattle.station.proofs.record.Offering.Laws as R′
 use Rattle.station.proofs.record.Offered as S
 use Rattle.station.proofs.record.Offered.Laws as S′
 use Rattle.station.proofs.record.Station.offer as offer
 use Rattle.station.proofs.record.Station.offer.Symbol as offer-def
 use Rattle.station.proofs.record.Station.offer.Symbol.{name as #offer}
 use Rattle.station.proofs.record.Station.offer.Met as offer-thm
-use Rattle.station.proofs.record.Station.offer_in_place.Key.{name as #offer-in-place}
-use Rattle.station.proofs.record.Station.offer_in_place as this
-use Rattle.station.proofs.record.Station.offer_in_place.Statement as stated
-use Rattle.station.proofs.record.Station.offer_in_place.Code as code
+use Rattle.lent.proofs.in_place.offer_in_place.Key.{name as #offer-in-place}
+use Rattle.lent.proofs.in_place.offer_in_place as this
+use Rattle.lent.proofs.in_place.offer_in_place.Statement as stated
+use Rattle.lent.proofs.in_place.offer_in_place.Code as code
 
 abbrev stayed : Stays (this.ended .signature .params) (this.ended .kept)
 stayed = (stay-ref (0 ∷ []) tt (plain (λ _. T.the-row)), (stay-none (λ _. u32) yes, tt))

@@ -2,7 +2,7 @@
 ghost use mathlib.Core.Path.{_≡_};
 ghost use Prim.Native.Nat.{_<_};
 ghost use lib.ListN.{length, getD};
-ghost use Rattle.table.specs.Table.{fitOf, numberIn, placedOf, HearsTable};
+ghost use Rattle.lent.specs.Table.{fitOf, numberIn, placedOf, HearsTable};
 use message::Refusal;
 use slots::MiniSlot;
 use station::Answer;

@@ -1,7 +1,7 @@
-use Rattle.table.proofs.Forties.{windows}
+use Rattle.lent.proofs.Forties.{windows}
 use borrow.Author.Needs.{needs}
-use Rattle.table.proofs.forty.part_of.Statement.{statement}
-use Rattle.table.proofs.forty.part_of.Tie as tie
+use Rattle.lent.proofs.forty.part_of.Statement.{statement}
+use Rattle.lent.proofs.forty.part_of.Tie as tie
 
 returns : tie.Need-returns
 returns c = search windows

@@ -55,27 +55,27 @@ use Rattle.slots.proofs.time.MiniSlot.Laws as N′
 use Rattle.station.specs.declared.record.Station.{Station}
 use Rattle.station.proofs.record.Station as T
 use Rattle.station.proofs.record.Station.Laws as T′
-use Rattle.table.specs.Table.{placedOf, fitOf, tableOf, placesOf}
-use Rattle.table.specs.declared.table.Placed.{Placed}
-use Rattle.table.specs.declared.table.Fit.{Fit}
-use Rattle.table.proofs.Tabled.{none, goS, goP, within, fit-code, fit-S, fit-P}
-use Rattle.table.proofs.table.Placed as R
-use Rattle.table.proofs.table.Placed.Laws as R′
-use Rattle.table.proofs.table.Fit as F
-use Rattle.table.proofs.table.Fit.Laws as F′
-use Rattle.table.proofs.table.fits as fits
-use Rattle.table.proofs.table.fits.Symbol as fits-def
-use Rattle.table.proofs.table.fits.Symbol.{name as #fits}
-use Rattle.table.proofs.table.fits.Met as fits-thm
-use Rattle.table.proofs.table.hear_at as hear
-use Rattle.table.proofs.table.hear_at.Symbol as hear-def
-use Rattle.table.proofs.table.hear_at.Symbol.{name as #hear-at}
-use Rattle.table.proofs.table.hear_at.Met as hear-thm
-use Rattle.table.proofs.table.hear_table.Key.{name as #hear-table}
-use Rattle.table.proofs.table.hear_table as this
-use Rattle.table.proofs.table.hear_table.Statement as stated
-use Rattle.table.proofs.table.hear_table.Code as code
-use Rattle.table.proofs.table.hear_table.Code.Mir as mir
+use Rattle.lent.specs.Table.{placedOf, fitOf, tableOf, placesOf}
+use Rattle.lent.specs.declared.table.Placed.{Placed}
+use Rattle.lent.specs.declared.table.Fit.{Fit}
+use Rattle.lent.proofs.Tabled.{none, goS, goP, within, fit-code, fit-S, fit-P}
+use Rattle.lent.proofs.table.Placed as R
+use Rattle.lent.proofs.table.Placed.Laws as R′
+use Rattle.lent.proofs.table.Fit as F
+use Rattle.lent.proofs.table.Fit.Laws as F′
+use Rattle.lent.proofs.table.fits as fits
+use Rattle.lent.proofs.table.fits.Symbol as fits-def
+use Rattle.lent.proofs.table.fits.Symbol.{name as #fits}
+use Rattle.lent.proofs.table.fits.Met as fits-thm
+use Rattle.lent.proofs.table.hear_at as hear
+use Rattle.lent.proofs.table.hear_at.Symbol as hear-def
+use Rattle.lent.proofs.table.hear_at.Symbol.{name as #hear-at}
+use Rattle.lent.proofs.table.hear_at.Met as hear-thm
+use Rattle.lent.proofs.table.hear_table.Key.{name as #hear-table}
+use Rattle.lent.proofs.table.hear_table as this
+use Rattle.lent.proofs.table.hear_table.Statement as stated
+use Rattle.lent.proofs.table.hear_table.Code as code
+use Rattle.lent.proofs.table.hear_table.Code.Mir as mir
 
 abbrev stayed : Stays (this.ended .signature .params) (this.ended .kept)
 stayed = (stay-slice (0 ∷ []) tt (plain (λ _. T.the-row)), (stay-none-slice (1 ∷ []) tt (plain (λ _. u8)) yes, (stay-none (λ _. N.the-row) yes, (stay-none-slice (2 ∷ []) tt (plain (λ _. u16)) yes, (stay-slice (3 ∷ []) tt (plain (λ _. u32)), tt)))))
@@ -418,5 +418,5 @@ hear-table-spec 𝓤 H 𝓜 𝓖 𝓡 =
     entered 𝓤 H (tripleOf 𝓤 H (𝓖 .A) this.signature (this.spec 𝓤 H (𝓖 .A) (𝓜 .mem) (𝓡 .run)))
     (tables 𝓤 H 𝓜 𝓡 code.env .C) (tables 𝓤 H 𝓜 𝓡 code.env .Λ) #hear-table code.function (code.unfolded 𝓤 H 𝓜 𝓡)
     (meets 𝓤 H (𝓖 .A) (givenOf 𝓤 H 𝓜 𝓖) (𝓜 .mem) (𝓡 .run) (tablesOf 𝓤 H 𝓜 (tables 𝓤 H 𝓜 𝓡 code.env))
-    (cited 𝓤 H (Fits 𝓤 H (𝓖 .A) (𝓜 .mem) (𝓡 .run)) 𝓜 𝓡 code.env #fits fits-def.routine code.calls-table·table·fits (fits-thm.met 𝓤 H 𝓜 𝓖 𝓡))
-    (cited 𝓤 H (HearAt 𝓤 H (𝓖 .A) (𝓜 .mem) (𝓡 .run)) 𝓜 𝓡 code.env #hear-at hear-def.routine code.calls-table·table·hear-at (hear-thm.met 𝓤 H 𝓜 𝓖 𝓡)))
+    (cited 𝓤 H (Fits 𝓤 H (𝓖 .A) (𝓜 .mem) (𝓡 .run)) 𝓜 𝓡 code.env #fits fits-def.routine code.calls-lent·table·fits (fits-thm.met 𝓤 H 𝓜 𝓖 𝓡))
+    (cited 𝓤 H (HearAt 𝓤 H (𝓖 .A) (𝓜 .mem) (𝓡 .run)) 𝓜 𝓡 code.env #hear-at hear-def.routine code.calls-lent·table·hear-at (hear-thm.met 𝓤 H 𝓜 𝓖 𝓡)))
