@@ -10,7 +10,7 @@ use Rattle.headend.specs.Requests.{Request}
 use Rattle.channel.specs.History.{Issue}
 use Rattle.channel.proofs.Timing.{at}
 use Rattle.channel.proofs.Keeping.{append-none, append-one, each-cons}
-use Rattle.headend.proofs.Planned.{ofSid}
+use Rattle.issuing.proofs.Planned.{ofSid}
 use Rattle.channel.proofs.Contents.{grantedBy, pendingBy}
 use Rattle.channel.proofs.Invariant.{lengthOf, startOf, endOf, Chained, Case, Waits, Clear, Carried}
 use Rattle.channel.proofs.Invariant.Case.{quiet, flying, held, granted}

@@ -11,14 +11,14 @@ use Rattle.message.specs.Rules.{granting}
 use Rattle.message.specs.Map.{Map, Interval, intervals, mapLength, grantsTo, pendingsTo}
 use Rattle.headend.specs.declared.record.Headend.{Headend}
 use Rattle.headend.specs.Requests.{Request, heldOf}
-use Rattle.headend.specs.Plan.{total}
-use Rattle.headend.specs.Issue.{grantedIn, pendingIn, planOf, callFault, issueFault, issuedFrom}
 use Rattle.headend.proofs.Checks.{handed-on}
-use Rattle.headend.proofs.Held.{granted-pending}
-use Rattle.headend.proofs.Issues.{Called, called}
-use Rattle.headend.proofs.Planned.{ofSid, grantIntervals, plan-intervals, plan-grants, plan-pendings, plan-gathered}
-use Rattle.headend.proofs.Selfcheck.{plan-bounds, map-length, map-plan, plan-fits}
-use Rattle.headend.proofs.Tables.{next-issued}
+use Rattle.issuing.specs.Plan.{total}
+use Rattle.issuing.specs.Issue.{grantedIn, pendingIn, planOf, callFault, issueFault, issuedFrom}
+use Rattle.issuing.proofs.Held.{granted-pending}
+use Rattle.issuing.proofs.Issues.{Called, called}
+use Rattle.issuing.proofs.Planned.{ofSid, grantIntervals, plan-intervals, plan-grants, plan-pendings, plan-gathered}
+use Rattle.issuing.proofs.Selfcheck.{plan-bounds, map-length, map-plan, plan-fits}
+use Rattle.issuing.proofs.Tables.{next-issued}
 use Rattle.channel.specs.History.{Issue, mapIn}
 
 -- what a MAP grants, and what it leaves pending

@@ -25,8 +25,8 @@ use Rattle.station.specs.Hearing.{stale, hearFault, readyPhase, quietPhase, pha
 use Rattle.station.specs.Offering as offering
 use Rattle.headend.specs.Requests.{Request, heldOf}
 use Rattle.headend.specs.Records as records
-use Rattle.headend.specs.Plan as plan
-use Rattle.headend.specs.Issue.{planOf, callFault, issueFault, movedTo, issuedFrom, issueOf}
+use Rattle.issuing.specs.Plan as plan
+use Rattle.issuing.specs.Issue.{planOf, callFault, issueFault, movedTo, issuedFrom, issueOf}
 use Rattle.channel.specs.History.{Issue, mapIn, Sending, State, stationAt, Event, Offer, Issue', Hear, Deliver, Lose, step, after}
 use Rattle.channel.specs.Claims.{FreshStation, Fresh, Within, Safe}
 use Rattle.channel.proofs.Keeping.{and-left, and-right, each-cons}

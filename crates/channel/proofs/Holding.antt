@@ -5,10 +5,10 @@ use Prim.Native.Nat.{ℕ, _-_, _≤_}
 use native.Mathlib.Omega.{arith}
 use lib.ListN.{length, replicate, length-set, length-append, length-map, length-replicate}
 use Rattle.headend.specs.declared.record.Headend.{Headend}
-use Rattle.headend.specs.Requests.{Request, placesOf}
+use Rattle.headend.specs.Requests.{Request}
 use Rattle.headend.specs.Records.{withPlaces, joined}
-use Rattle.headend.specs.Issue.{pendingIn, movedTo, issuedFrom}
-use Rattle.headend.proofs.Tables.{pending-few}
+use Rattle.issuing.specs.Issue.{placesOf, pendingIn, movedTo, issuedFrom}
+use Rattle.issuing.proofs.Tables.{pending-few}
 
 pub record Places (h : Headend) : Type 0 where
   pub sids : length (h .sids) ≡ 64

@@ -17,7 +17,7 @@ use Rattle.station.specs.declared.record.Station.{Station}
 use Rattle.headend.specs.Requests.{Request, heldOf}
 use Rattle.channel.specs.History.{Issue, mapIn, Sending, State, stationAt}
 use Rattle.channel.proofs.Timing.{at}
-use Rattle.headend.proofs.Planned.{ofSid}
+use Rattle.issuing.proofs.Planned.{ofSid}
 use Rattle.channel.proofs.Holding.{Places}
 use Rattle.channel.proofs.Contents.{grantedBy, pendingBy, Contents}
 

@@ -21,7 +21,7 @@ use Rattle.station.specs.Hearing.{hasGrant, hasPending, phaseAfter, requestIn, 
 use Rattle.station.proofs.Heard.{Outcome, hear-granted, hear-idle, hear-outcome, hear-still}
 use Rattle.station.proofs.Inside.{contention-inside}
 use Rattle.headend.specs.Requests.{Request}
-use Rattle.headend.proofs.Planned.{ofSid}
+use Rattle.issuing.proofs.Planned.{ofSid}
 use Rattle.channel.specs.History.{Issue, mapIn, requestBy}
 use Rattle.channel.proofs.Timing.{at, at-moved}
 use Rattle.channel.proofs.Keeping.{clash}

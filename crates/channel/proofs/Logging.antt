@@ -17,8 +17,8 @@ use Rattle.station.specs.Hearing.{hasGrant, hasPending, phaseAfter, requestIn, 
 use Rattle.station.proofs.Heard.{Outcome, hear-granted, hear-outcome}
 use Rattle.station.proofs.Heard.Outcome.{silent, spoke}
 use Rattle.headend.specs.Requests.{Request}
-use Rattle.headend.specs.Plan.{total, useOf}
-use Rattle.headend.proofs.Planned.{grantIntervals}
+use Rattle.issuing.specs.Plan.{total, useOf}
+use Rattle.issuing.proofs.Planned.{grantIntervals}
 use Rattle.channel.specs.History.{Issue, mapIn, Sending, burstsBy, sendingsBy}
 use Rattle.channel.proofs.Timing.{at, at-moved}
 use Rattle.channel.proofs.Keeping.{mem-keep, and-left, and-right, each-cons}

@@ -32,16 +32,16 @@ use Rattle.station.proofs.record.Station.offer as offer'
 use Rattle.station.proofs.record.Station.offer.Reads as offer
 use Rattle.station.proofs.record.Station.offer.Kinds as offer-kinds
 use Rattle.headend.specs.declared.record.Headend.{Headend}
-use Rattle.headend.specs.declared.record.Issuing.{Issuing}
-use Rattle.headend.specs.declared.record.Issued.the-variants as issued
-use Rattle.headend.specs.Issue.{planOf, planMessage, callFault, issueFault, issueOf, issueInto}
 use Rattle.headend.proofs.record.Headend.request as request'
 use Rattle.headend.proofs.record.Headend.request.Reads as request
 use Rattle.headend.proofs.record.Headend.request.Kinds as request-kinds
-use Rattle.headend.proofs.record.Headend.issue as issue'
-use Rattle.headend.proofs.record.Headend.issue.Reads as issue
-use Rattle.headend.proofs.record.Headend.issue.Kinds as issue-kinds
-use Rattle.headend.proofs.Selfcheck.{plan-count}
+use Rattle.issuing.specs.declared.issuing.Issuing.{Issuing}
+use Rattle.issuing.specs.declared.issuing.Issued.the-variants as issued
+use Rattle.issuing.specs.Issue.{planOf, planMessage, callFault, issueFault, issueOf, issueInto}
+use Rattle.issuing.proofs.issuing.issue as issue'
+use Rattle.issuing.proofs.issuing.issue.Reads as issue
+use Rattle.issuing.proofs.issuing.issue.Kinds as issue-kinds
+use Rattle.issuing.proofs.Selfcheck.{plan-count}
 use Rattle.channel.specs.History.{pluck, from, Issue, bytesOf, mapIn, Sending, burstsBy, State, stationAt, nothing, Offer, Issue', Hear, Deliver, heardBy, asked, issuesAfter, step}
 use Rattle.channel.proofs.Contents.{issue-called}
 
@@ -86,7 +86,7 @@ lent h ack c budget n old e = go (eqb (issueFault h ack c budget (length old)) 0
         let long : length (planMessage h ack c budget) ≡ n = length-message (planOf h ack c budget .fields) (planOf h ack c budget .elements) old ∙ omega arith in
         rw f (take-at (planMessage h ack c budget) (drop (length (planMessage h ack c budget)) old) n long)
 
--- Headend::issue, with room enough; and what it lays out are the bytes that stations hear
+-- issue, with room enough; and what it lays out are the bytes that stations hear
 module _ (κs : Lifetimes.Lfts 1) (a : World.ArgsD issue'.signature κs) (r : World.ResD issue'.signature κs) (t : Clauses.AtExit (Kinds'.endedOf 1 issue-kinds.ps issue-kinds.r) κs) (post : issue.Post κs a r t)
     (s : State) (ack : ℕ) (same : a .0 ≡ s .headend) (time : a .1 .0 .0 ≡ ack % 2 ^ 32) where
   pub issue-code : 24 + 4 * s .headend .held ≤ length (now (a .1 .1 .1 .1 .0)) →

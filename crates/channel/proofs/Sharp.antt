@@ -27,8 +27,8 @@ use Rattle.station.specs.Hearing.{stale, hearFault, readyPhase, quietPhase, pha
 use Rattle.station.specs.Offering as offering
 use Rattle.headend.specs.Requests.{Request, heldOf}
 use Rattle.headend.specs.Records as records
-use Rattle.headend.specs.Plan as plan
-use Rattle.headend.specs.Issue.{planOf, callFault, issueFault, movedTo, issuedFrom, issueOf}
+use Rattle.issuing.specs.Plan as plan
+use Rattle.issuing.specs.Issue.{planOf, callFault, issueFault, movedTo, issuedFrom, issueOf}
 use Rattle.channel.specs.History.{Issue, bytesOf, State, nobody, stationAt, Offer, Issue', Hear, Deliver, heardBy, step, after}
 use Rattle.channel.specs.Claims.{GrantedAlone, HeldWaits}
 use Rattle.channel.proofs.Keeping.{clash, and-left, and-right}

@@ -14,7 +14,7 @@ use Rattle.message.specs.Map.{endOf}
 use Rattle.headend.specs.declared.record.Headend.{Headend}
 use Rattle.headend.specs.Requests.{Request}
 use Rattle.headend.specs.Records.{withPlaces, requestFault, joined, requestOf}
-use Rattle.headend.specs.Issue.{issueFault, issueOf}
+use Rattle.issuing.specs.Issue.{issueFault, issueOf}
 use Rattle.channel.specs.History.{from, Issue, mapIn, State, Event, Offer, Issue', Hear, Deliver, Lose, heardAt, asked, step, after, spent}
 use Rattle.channel.specs.Claims.{Fresh, Safe, Within}
 use Rattle.channel.proofs.Timing.{at, at-moved}

@@ -23,14 +23,15 @@ use Rattle.station.specs.Hearing.{hearFault, stationAfter, hearOf}
 use Rattle.headend.specs.declared.record.Headend.{Headend}
 use Rattle.headend.specs.Requests.{Request, heldOf}
 use Rattle.headend.specs.Records.{withPlaces, requestFault, joined, requestOf}
-use Rattle.headend.specs.Issue.{issueFault, movedTo, issuedFrom, issueOf}
 use Rattle.headend.proofs.Checks.{Welcome, request-welcome}
-use Rattle.headend.proofs.Issues.{Called}
-use Rattle.headend.proofs.Tables.{held-joined, held-issued}
+use Rattle.headend.proofs.Tables.{held-joined}
+use Rattle.issuing.specs.Issue.{issueFault, movedTo, issuedFrom, issueOf}
+use Rattle.issuing.proofs.Issues.{Called}
+use Rattle.issuing.proofs.Tables.{held-issued}
 use Rattle.channel.specs.History.{pluck, from, Issue, bytesOf, mapIn, Sending, State, Offer, Issue', Hear, Deliver, Lose, nobody, nothing, stationAt, burstsBy, sendingsBy, heardBy, heardAt, step, spent}
 use Rattle.channel.proofs.Timing.{at, at-moved, earlier-at, ack-at}
 use Rattle.channel.proofs.Keeping.{clash, and-left, and-right, both-true, and-false, keep-stricter, keep-none-at, keep-none, pluck-other, pluck-none, pluck-this, pluck-one, pluck-mem, getD-mem, from-mem, each-cons}
-use Rattle.headend.proofs.Planned.{ofSid}
+use Rattle.issuing.proofs.Planned.{ofSid}
 use Rattle.channel.proofs.Holding.{places-joined, places-issued}
 use Rattle.channel.proofs.Contents.{grantedBy, pendingBy, held-split, Contents, ack-between, issue-called, contents, next-is}
 use Rattle.channel.proofs.Invariant.{lengthOf, startOf, endOf, heardTo, Case, live, Fits, Covered, Owned, Inv}

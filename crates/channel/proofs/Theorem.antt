@@ -19,14 +19,14 @@ use Rattle.station.specs.declared.record.Hearing.{Hearing}
 use Rattle.station.specs.Hearing.{phaseAfter, requestIn, stationAfter}
 use Rattle.station.proofs.Heard.{Outcome}
 use Rattle.station.proofs.Heard.Outcome.{silent, spoke}
-use Rattle.headend.specs.declared.record.Issued.{Issued}
-use Rattle.headend.specs.declared.record.Issued.the-variants as issued
 use Rattle.headend.specs.Requests.{Request, heldOf}
+use Rattle.issuing.specs.declared.issuing.Issued.{Issued}
+use Rattle.issuing.specs.declared.issuing.Issued.the-variants as issued
 use Rattle.channel.specs.History.{from, Issue, bytesOf, mapIn, State, stationAt, Event, Offer, Issue', Hear, Deliver, Lose, heardAt, issuesAfter, asked, issuing, step, after, spent}
 use Rattle.channel.specs.Claims.{Fresh, GrantedAlone, HeldWaits, WaitingHeld, Safe}
 use Rattle.channel.proofs.Timing.{at, at-moved, earlier-at}
 use Rattle.channel.proofs.Keeping.{clash, keep-mem, keep-head, mem-only}
-use Rattle.headend.proofs.Planned.{ofSid}
+use Rattle.issuing.proofs.Planned.{ofSid}
 use Rattle.channel.proofs.Contents.{grantedBy, pendingBy, held-split}
 use Rattle.channel.proofs.Invariant.{lengthOf, startOf, endOf, heardTo, Case, Waits, Clear, Carried, live, Covered, Owned, Inv}
 use Rattle.channel.proofs.Invariant.Case.{quiet, flying, held, granted}

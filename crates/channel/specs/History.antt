@@ -18,12 +18,12 @@ use Rattle.station.specs.declared.record.Hearing.{Hearing}
 use Rattle.station.specs.Hearing.{hearOf}
 use Rattle.station.specs.Offering.{offerOf}
 use Rattle.headend.specs.declared.record.Headend.{Headend}
-use Rattle.headend.specs.declared.record.Issued.{Issued}
-use Rattle.headend.specs.declared.record.Issued.the-variants as issued
-use Rattle.headend.specs.declared.record.Issuing.{Issuing}
 use Rattle.headend.specs.Requests.{Request}
 use Rattle.headend.specs.Records.{requestOf}
-use Rattle.headend.specs.Issue.{planMessage, issueOf}
+use Rattle.issuing.specs.declared.issuing.Issued.{Issued}
+use Rattle.issuing.specs.declared.issuing.Issued.the-variants as issued
+use Rattle.issuing.specs.declared.issuing.Issuing.{Issuing}
+use Rattle.issuing.specs.Issue.{planMessage, issueOf}
 
 module _ {A : Type 0} where
   -- a list without the one at place k

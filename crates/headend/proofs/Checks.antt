@@ -2,7 +2,7 @@
 use mathlib.Core.Path.{_≡_, refl, sym, _∙_}
 use mathlib.Core.Bool.{Bool, true, false, cond, not, _||_}
 use mathlib.Core.List.{List}
-use Prim.Native.Nat.{ℕ, zero, _+_, _-_, min, _≤_, _<_}
+use Prim.Native.Nat.{ℕ, _+_, min, _≤_, _<_}
 use lib.Dec.{leb, ltb, eqb}
 use lib.ListN.{set}
 use borrow.Author.Tests.{lt-ltb, le-ltb, le-leb, lt-leb, eq-eqb, ne-eqb, not-true, not-false, ltb-false, leb-false, eqb-true, eqb-false}
@@ -14,7 +14,6 @@ use Rattle.message.specs.Sids.{unicast}
 use Rattle.message.proofs.Ways.{said, said-not, passed}
 use Rattle.headend.specs.declared.record.Headend.{Headend}
 use Rattle.headend.specs.declared.record.SetUp.{SetUp}
-use Rattle.headend.specs.declared.record.Taken.{Taken}
 use Rattle.headend.specs.declared.record.Taken.the-variants as taken
 use Rattle.headend.specs.Requests.{Request, requestAt, heldOf, firstOf}
 use Rattle.headend.specs.Records.{fresh, withPlaces, none, setUpOf, any, anyOutside, anyIs, badSize, recordFault, requestFault, joined, requestOf}

@@ -1,23 +1,23 @@
--- Lists by number: tests, parts and sums of them, and places that hold them.
+-- Lists by number, and tests of them.
 use mathlib.Core.Path.{_≡_, refl, ap}
 use mathlib.Core.Bool.{Bool, true, false, _||_}
-use mathlib.Core.List.{List, _∷_, map}
 use Prim.Native.Nat.{ℕ, zero, suc, _+_, _-_, _≤_, _<_}
+use native.Mathlib.Omega.{arith}
 use native.Mathlib.Nat.{sub-zero}
 use Rattle.message.specs.Lists.{listed}
 use Rattle.message.proofs.Granting.{listed-more, listed-none}
 use Rattle.headend.specs.Records.{any}
 
-module _ {A B : Type 0} (f : A → B) where
-  pub any-map : (p : B → Bool) (el : ℕ → A) (i k : ℕ) → any (λ x. p (f x)) (listed el i k) ≡ any p (listed (λ j. f (el j)) i k)
-  unfolding any listed
-  any-map p el i zero = refl
-  any-map p el i (suc k) = ap (λ (b : Bool). p (f (el i)) || b) (any-map p el (i + 1) k)
+-- numbers by places: only what stands at them counts
+pub listed-agree : {A : Type 0} (el other : ℕ → A) (i k : ℕ) → ((j : ℕ) → j < i + k → el j ≡ other j) → listed el i k ≡ listed other i k
+unfolding listed
+listed-agree el other i zero h = refl
+listed-agree el other i (suc k) h = rw (h i (omega arith), listed-agree el other (i + 1) k (λ j l. h j (omega arith))) refl
 
-  pub map-listed : (el : ℕ → A) (i k : ℕ) → map f (listed el i k) ≡ listed (λ j. f (el j)) i k
-  unfolding listed
-  map-listed el i zero = refl
-  map-listed el i (suc k) = ap (λ (l : List B). f (el i) ∷ l) (map-listed el (i + 1) k)
+pub any-map : {A B : Type 0} (f : A → B) (p : B → Bool) (el : ℕ → A) (i k : ℕ) → any (λ x. p (f x)) (listed el i k) ≡ any p (listed (λ j. f (el j)) i k)
+unfolding any listed
+any-map f p el i zero = refl
+any-map f p el i (suc k) = ap (λ (b : Bool). p (f (el i)) || b) (any-map f p el (i + 1) k)
 
 -- what is left of a scan gives the answer of the whole; el says what stands at each number
 module _ {A : Type 0} (p : A → Bool) (el : ℕ → A) (n : ℕ) where

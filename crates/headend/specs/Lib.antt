@@ -1,4 +1,2 @@
 pub mod Requests
 pub mod Records
-pub mod Plan
-pub mod Issue

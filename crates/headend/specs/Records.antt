@@ -7,7 +7,6 @@ use lib.ListN.{set, replicate}
 use Rattle.slots.specs.declared.time.MiniSlot.{MiniSlot}
 use Rattle.slots.specs.Time.{earlier}
 use Rattle.message.specs.declared.fields.Backoff.{Backoff}
-use Rattle.message.specs.declared.refusal.Refusal.{Refusal}
 use Rattle.message.specs.Fields.{badBackoff}
 use Rattle.message.specs.Sids.{within, unicast}
 use Rattle.message.specs.Refusals as refusals
@@ -15,7 +14,6 @@ use Rattle.message.specs.Refusals.{Sid, Size, Passed, Unannounced, Held, Full, 
 use Rattle.headend.specs.declared.record.Headend.{Headend}
 use Rattle.headend.specs.declared.record.SetUp.{SetUp}
 use Rattle.headend.specs.declared.record.Taking.{Taking}
-use Rattle.headend.specs.declared.record.Taken.{Taken}
 use Rattle.headend.specs.declared.record.Taken.the-variants as taken
 use Rattle.headend.specs.Requests.{Request, heldOf}
 

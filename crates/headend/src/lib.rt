@@ -1,13 +1,11 @@
-// A small headend: it holds requests and issues MAPs.
-mod issue;
-mod plan;
+// A small headend: set-up, its record, and the requests that it holds.
 pub mod record;
 mod request;
-mod setup;
+pub mod setup;
 
 pub use record::Headend;
-pub use record::Issued;
-pub use record::Issuing;
 pub use record::SetUp;
 pub use record::Taken;
 pub use record::Taking;
+pub use record::with_places;
+pub use setup::record_fault;

@@ -38,19 +38,8 @@ pub struct Taking {
     pub answer: Taken,
 }
 
-// The bytes of the MAP, or why there is none.
-pub enum Issued {
-    Size(u32),
-    Refused(Refusal),
-}
-
-pub struct Issuing {
-    pub headend: Headend,
-    pub answer: Issued,
-}
-
 // The record with other times and other places held, its set-up as it was.
-pub(crate) fn with_places(
+pub fn with_places(
     h: Headend,
     next: MiniSlot,
     ack: MiniSlot,

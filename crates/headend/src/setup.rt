@@ -111,7 +111,7 @@ pub(crate) fn places(held: u32) -> u32
 }
 
 // What is wrong with a record handed in, or 0.
-pub(crate) fn record_fault(h: Headend) -> u32
+pub fn record_fault(h: Headend) -> u32
     ensures { λ r. ⌜ r ≡ recordFault h ⌝ }
 {
     let ranging = h.ranging;

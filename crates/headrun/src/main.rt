@@ -1,8 +1,8 @@
 // A worked run of the headend: each line says what is asked and what is answered, and the bytes of
 // a MAP follow on a line of their own.
 use headend::Headend;
-use headend::Issued;
 use headend::Taken;
+use issuing::Issued;
 use message::Backoff;
 use message::Refusal;
 use slots::MiniSlot;
@@ -74,7 +74,7 @@ fn request(h: Headend, sid: u32, size: u32, first: u32) -> Headend {
 // .. and after an issue into the lent room, with the bytes that stand there then.
 fn issue(h: Headend, ack: u32, c: u32, budget: u32, room: &mut [u8]) -> Headend {
     asked(b"issue", ack, c, budget);
-    let issuing = h.issue(MiniSlot(ack), c, budget, room);
+    let issuing = issuing::issue(h, MiniSlot(ack), c, budget, room);
     let answer = issuing.answer;
     answered_issue(answer);
     hex(room);
@@ -136,7 +136,7 @@ fn full(h: Headend) {
     request(h, 5, 1, 975);
     let mut room = [0u8; 280];
     asked(b"issue", 980, 6, 30);
-    let issuing = h.issue(MiniSlot(980), 6, 30, &mut room);
+    let issuing = issuing::issue(h, MiniSlot(980), 6, 30, &mut room);
     let answer = issuing.answer;
     answered_issue(answer);
     request(issuing.headend, 65, 1, 981);

@@ -12,8 +12,8 @@ use crate::print::refused;
 use crate::print::say;
 use crate::words;
 use headend::Headend;
-use headend::Issued;
 use headend::Taken;
+use issuing::Issued;
 use message::Backoff;
 use slots::MiniSlot;
 
@@ -136,7 +136,7 @@ fn issue(h: Headend, ns: &[u32]) -> Headend {
     let room = at_most(number_at(ns, 4) as usize, 1000);
     let lent = &mut bytes[0..room];
     let ack = MiniSlot(number_at(ns, 1));
-    let issuing = h.issue(ack, number_at(ns, 2), number_at(ns, 3), lent);
+    let issuing = issuing::issue(h, ack, number_at(ns, 2), number_at(ns, 3), lent);
     let answer = issuing.answer;
     issued(answer);
     say(words::SPACE);
