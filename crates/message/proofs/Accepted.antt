@@ -25,7 +25,8 @@ use Rattle.message.specs.Refusals.{refusal}
 use Rattle.message.specs.Lists.{listed, keep, gather}
 use Rattle.message.specs.Rules.{granting, unknownUse, misordered, wrongSid, misplaced, tooFar, grantTooLong, faultOf, nothingYet, advanced, endedAt, walked}
 use Rattle.message.specs.Map.{Interval, firstOffset, intervals, mapLength, afterNull}
-use Rattle.message.specs.Reading.{headerFault, verdictOf, mapOf, readOf, checkedBy}
+use Rattle.message.specs.Reading.{headerFault, verdictOf, mapOf, readOf}
+use Rattle.message.specs.Scan.{checkedBy}
 use Rattle.message.proofs.Ways.{passed, advanced-after, Sound, header-sound, element-there}
 
 -- what is kept of two lists, and gathered from them

@@ -27,7 +27,8 @@ use Rattle.message.specs.Element.{elementAt}
 use Rattle.message.specs.Map.{Interval, firstOffset, intervals, grantsTo}
 use Rattle.message.specs.Lists.{listed}
 use Rattle.message.proofs.Accepted.{accepted}
-use Rattle.message.specs.Grants.{grantsSid, hits, passedBy, kthOf, kthGrant, grantedAt, grantOf}
+use Rattle.message.specs.Grants.{kthOf, kthGrant, grantedAt, grantOf}
+use Rattle.message.specs.Scan.{grantsSid, hits, passedBy}
 
 pub past-end : (s : List ℕ) (n : ℕ) → length s ≤ 16 + 4 * n → elementAt s n .offset ≡ 0
 unfolding elementAt

@@ -10,7 +10,6 @@ use borrow.Author.Tests.{lt-ltb, le-ltb, le-leb, lt-leb, eq-eqb, ne-eqb, not-tru
 use native.Mathlib.Nat.{sub-zero}
 pub use Rattle.slots.proofs.Spans.{said, said-not}
 use Rattle.message.specs.declared.element.Element.{Element}
-use Rattle.message.specs.declared.fields.Fields.{Fields}
 use Rattle.message.specs.declared.rules.Progress.{Progress}
 use Rattle.message.specs.declared.rules.Walked.{Walked}
 use Rattle.message.specs.declared.rules.Walked.the-variants.{Whole, Fault}
@@ -18,9 +17,10 @@ use Rattle.message.specs.Sids.{within, sidAllowed}
 use Rattle.message.specs.Element.{elementIn, elementAt}
 use Rattle.message.specs.Fields.{fieldsOf, countOf, badBackoffs}
 use Rattle.message.specs.Refusals.{refusal}
-use Rattle.message.specs.Rules.{granting, unknownUse, misordered, wrongSid, misplaced, tooFar, grantTooLong, standingFault, faultOf, nothingYet, advanced, endedAt, walked}
+use Rattle.message.specs.Rules.{granting, unknownUse, misordered, wrongSid, misplaced, tooFar, grantTooLong, faultOf, nothingYet, advanced, endedAt, walked}
+use Rattle.message.specs.Scan.{standingFault, checkedBy}
 use Rattle.message.specs.Lists.{listed}
-use Rattle.message.specs.Reading.{headerFault, verdictOf, readOf, checkedBy}
+use Rattle.message.specs.Reading.{headerFault, verdictOf, readOf}
 use Rattle.message.specs.declared.reading.Checked.the-variants as checked
 use Rattle.message.specs.declared.refusal.Refusal.{Refusal}
 use Rattle.message.specs.declared.reading.Verdict.the-variants.{Refused}

@@ -1,8 +1,6 @@
 -- Document 01, "The station": "The k-th grant to a SID, k from 0, can be asked for by first mini-slot and length; the message is checked first; there may be none".
-use Prim.Native.Nat.{ℕ, zero, suc, _-_}
-use mathlib.Core.Bool.{Bool, cond, _&&_}
+use Prim.Native.Nat.{ℕ, zero, suc}
 use mathlib.Core.List.{List, [], _∷_}
-use lib.Dec.{eqb}
 use Rattle.slots.specs.Time.{movedOn}
 use Rattle.message.specs.declared.element.Element.{Element}
 use Rattle.message.specs.declared.reading.Verdict.{Verdict}
@@ -11,19 +9,8 @@ use Rattle.message.specs.declared.grants.Found.{Found}
 use Rattle.message.specs.declared.grants.Found.the-variants as found
 use Rattle.message.specs.declared.grants.Granted.{Granted}
 use Rattle.message.specs.declared.grants.Granted.the-variants.{At, Nowhere, Refused}
-use Rattle.message.specs.Rules.{granting}
 use Rattle.message.specs.Map.{Map, Interval, grantsTo}
 use Rattle.message.specs.Reading.{mapOf, readOf}
-
-unfoldable pub grantsSid : Element → ℕ → Bool
-grantsSid e sid = granting (e .iuc) && eqb (e .sid) sid
-
--- an element is the grant sought, with none left to pass
-unfoldable pub hits : Element → ℕ → ℕ → Bool
-hits e sid left = grantsSid e sid && eqb left 0
-
-unfoldable pub passedBy : Element → ℕ → ℕ → ℕ
-passedBy e sid left = cond (grantsSid e sid) (left - 1) left
 
 -- the k-th of some intervals
 unfoldable pub kthOf : List Interval → ℕ → Found

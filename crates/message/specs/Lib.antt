@@ -8,3 +8,4 @@ pub mod Map
 pub mod Reading
 pub mod After
 pub mod Grants
+pub mod Scan

@@ -9,8 +9,6 @@ use Rattle.message.specs.declared.rules.Walked.{Walked}
 use Rattle.message.specs.declared.rules.Walked.the-variants.{Whole, Fault}
 use Rattle.message.specs.declared.reading.Verdict.{Verdict}
 use Rattle.message.specs.declared.reading.Verdict.the-variants.{Accepted, Refused}
-use Rattle.message.specs.declared.reading.Checked.{Checked}
-use Rattle.message.specs.declared.reading.Checked.the-variants as checked
 use Rattle.message.specs.Refusals.{Short, Count, Length, Backoff, numberOf, refusal}
 use Rattle.message.specs.Element.{elementIn}
 use Rattle.message.specs.Fields.{fieldsOf, countOf, badBackoffs}
@@ -39,8 +37,3 @@ unfoldable pub readOf : List ℕ → Verdict
 readOf s =
     cond (eqb (headerFault s) 0) (verdictOf (mapOf s .fields) (countOf s) (walked 0 nothingYet (mapOf s .elements)))
     (Refused (refusal (headerFault s) 0))
-
--- what a verdict says beyond the header's fields
-abbrev pub checkedBy : Verdict → Checked
-checkedBy (Accepted r) = checked.Whole (r .null) (r .n) (r .length)
-checkedBy (Refused why) = checked.Fault (why .number) (why .element)

@@ -38,14 +38,6 @@ tooFar p e = not (p .closed) && ltb 4096 (e .offset)
 abbrev pub grantTooLong : Progress → Element → Bool
 grantTooLong p e = p .granting && ltb (p .offset + 255) (e .offset)
 
--- the number of the first of 5, 10, 6, 7 that an element breaks, which it can wherever it stands; 0 where it breaks none of these
-unfoldable pub standingFault : Progress → Element → ℕ
-standingFault p e =
-    cond (unknownUse e) (numberOf Use)
-    (cond (misordered p e) (numberOf Null)
-    (cond (wrongSid e) (numberOf Sid)
-    (cond (misplaced p e) (numberOf Place) 0)))
-
 -- the number of the first rule that an element breaks; 0 where it breaks none
 unfoldable pub faultOf : Progress → Element → ℕ
 faultOf p e =

@@ -1,7 +1,8 @@
 // The rules of the elements, one test each, and the first that an element breaks.
 ghost use mathlib.Core.Path.{_≡_};
 ghost use Rattle.message.specs.Sids.{within, sidAllowed};
-ghost use Rattle.message.specs.Rules.{granting, unknownUse, misordered, wrongSid, misplaced, tooFar, grantTooLong, standingFault, faultOf, nothingYet, advanced, endedAt};
+ghost use Rattle.message.specs.Rules.{granting, unknownUse, misordered, wrongSid, misplaced, tooFar, grantTooLong, faultOf, nothingYet, advanced, endedAt};
+ghost use Rattle.message.specs.Scan.{standingFault};
 use crate::element::Element;
 use crate::refusal::Refusal;
 

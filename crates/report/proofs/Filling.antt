@@ -1,7 +1,7 @@
 -- Text put into lent bytes piece by piece: what is put so far and what is still to come are the whole.
 use mathlib.Core.Path.{_≡_, refl, sym, _∙_, ap}
 use mathlib.Core.List.{List, [], _++_, append-assoc, append-nil}
-use Prim.Native.Nat.{ℕ, _+_, _-_, _≤_, _<_}
+use Prim.Native.Nat.{ℕ, _+_, _≤_, _<_}
 use native.Mathlib.Omega.{arith}
 use lib.ListN.{length, take, drop, length-append, length-drop, take-append-drop, getD, set}
 use lib.Seq.{take-at, drop-at, drop-drop, length-take-le, take-length, paste, paste-suc}

@@ -1,4 +1,4 @@
-use Rattle.message.specs.Grants.{grantsSid}
+use Rattle.message.specs.Scan.{grantsSid}
 use borrow.Author.Needs.{needs}
 use Rattle.message.proofs.grants.grants_sid.Statement.{statement}
 use Rattle.message.proofs.grants.grants_sid.Tie as tie

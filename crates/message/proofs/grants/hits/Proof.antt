@@ -1,4 +1,4 @@
-use Rattle.message.specs.Grants.{hits}
+use Rattle.message.specs.Scan.{hits}
 use borrow.Author.Needs.{needs}
 use Rattle.message.proofs.grants.hits.Statement.{statement}
 use Rattle.message.proofs.grants.hits.Tie as tie

@@ -1,0 +1,35 @@
+-- How the code goes through a message, for what private functions promise: no public promise cites these.
+use Prim.Native.Nat.{ℕ, _-_}
+use mathlib.Core.Bool.{Bool, cond, _&&_}
+use lib.Dec.{eqb}
+use Rattle.message.specs.declared.element.Element.{Element}
+use Rattle.message.specs.declared.rules.Progress.{Progress}
+use Rattle.message.specs.declared.reading.Verdict.{Verdict}
+use Rattle.message.specs.declared.reading.Verdict.the-variants.{Accepted, Refused}
+use Rattle.message.specs.declared.reading.Checked.{Checked}
+use Rattle.message.specs.declared.reading.Checked.the-variants as checked
+use Rattle.message.specs.Refusals.{Use, Null, Sid, Place, numberOf}
+use Rattle.message.specs.Rules.{granting, unknownUse, misordered, wrongSid, misplaced}
+
+-- the number of the first of 5, 10, 6, 7 that an element breaks, which it can wherever it stands; 0 where it breaks none of these
+unfoldable pub standingFault : Progress → Element → ℕ
+standingFault p e =
+    cond (unknownUse e) (numberOf Use)
+    (cond (misordered p e) (numberOf Null)
+    (cond (wrongSid e) (numberOf Sid)
+    (cond (misplaced p e) (numberOf Place) 0)))
+
+-- what a verdict says beyond the header's fields
+abbrev pub checkedBy : Verdict → Checked
+checkedBy (Accepted r) = checked.Whole (r .null) (r .n) (r .length)
+checkedBy (Refused why) = checked.Fault (why .number) (why .element)
+
+unfoldable pub grantsSid : Element → ℕ → Bool
+grantsSid e sid = granting (e .iuc) && eqb (e .sid) sid
+
+-- an element is the grant sought, with none left to pass
+unfoldable pub hits : Element → ℕ → ℕ → Bool
+hits e sid left = grantsSid e sid && eqb left 0
+
+unfoldable pub passedBy : Element → ℕ → ℕ → ℕ
+passedBy e sid left = cond (grantsSid e sid) (left - 1) left
