@@ -10,9 +10,9 @@ use borrow.Author.Tests.{eq-eqb, leb-true, le-ltb}
 use Rattle.slots.specs.Time.{earlier}
 use Rattle.station.specs.declared.record.Phase.the-variants.{Waiting}
 use Rattle.station.specs.declared.record.Station.{Station}
-use Rattle.station.specs.Hearing.{phaseAfter, requestIn}
-use Rattle.station.proofs.Heard.{Outcome}
-use Rattle.station.proofs.Heard.Outcome.{silent, spoke}
+use Rattle.hearing.specs.Hearing.{phaseAfter, requestIn}
+use Rattle.hearing.proofs.Heard.{Outcome}
+use Rattle.hearing.proofs.Heard.Outcome.{silent, spoke}
 use Rattle.headend.specs.Requests.{Request}
 use Rattle.channel.specs.History.{Issue, mapIn}
 use Rattle.channel.proofs.Timing.{at, earlier-at}

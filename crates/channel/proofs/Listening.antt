@@ -14,12 +14,12 @@ use Rattle.message.specs.Rules.{granting}
 use Rattle.message.specs.Map.{Map, Interval, timeAt}
 use Rattle.station.specs.declared.record.Phase.the-variants.{Idle, Waiting}
 use Rattle.station.specs.declared.record.Station.{Station}
-use Rattle.station.specs.declared.record.Sent.the-variants.{Nothing, At}
-use Rattle.station.specs.Opportunities.{contentionIn, ownIn, contention, own}
-use Rattle.station.specs.Steps.{granted}
-use Rattle.station.specs.Hearing.{hasGrant, hasPending, phaseAfter, requestIn, stationAfter}
-use Rattle.station.proofs.Heard.{Outcome, hear-granted, hear-idle, hear-outcome, hear-still}
-use Rattle.station.proofs.Inside.{contention-inside}
+use Rattle.hearing.specs.declared.answer.Sent.the-variants.{Nothing, At}
+use Rattle.hearing.specs.Opportunities.{contentionIn, ownIn, contention, own}
+use Rattle.hearing.specs.Steps.{granted}
+use Rattle.hearing.specs.Hearing.{hasGrant, hasPending, phaseAfter, requestIn, stationAfter}
+use Rattle.hearing.proofs.Heard.{Outcome, hear-granted, hear-idle, hear-outcome, hear-still}
+use Rattle.hearing.proofs.Inside.{contention-inside}
 use Rattle.headend.specs.Requests.{Request}
 use Rattle.issuing.proofs.Planned.{ofSid}
 use Rattle.channel.specs.History.{Issue, mapIn, requestBy}

@@ -11,11 +11,11 @@ use Rattle.slots.specs.Time.{movedOn}
 use Rattle.message.specs.Rules.{granting}
 use Rattle.message.specs.Map.{Map, Interval, intervals, grantsTo, timeAt}
 use Rattle.station.specs.declared.record.Station.{Station}
-use Rattle.station.specs.declared.record.Sent.{Sent}
-use Rattle.station.specs.declared.record.Sent.the-variants.{Nothing, At}
-use Rattle.station.specs.Hearing.{hasGrant, hasPending, phaseAfter, requestIn, stationAfter}
-use Rattle.station.proofs.Heard.{Outcome, hear-granted, hear-outcome}
-use Rattle.station.proofs.Heard.Outcome.{silent, spoke}
+use Rattle.hearing.specs.declared.answer.Sent.{Sent}
+use Rattle.hearing.specs.declared.answer.Sent.the-variants.{Nothing, At}
+use Rattle.hearing.specs.Hearing.{hasGrant, hasPending, phaseAfter, requestIn, stationAfter}
+use Rattle.hearing.proofs.Heard.{Outcome, hear-granted, hear-outcome}
+use Rattle.hearing.proofs.Heard.Outcome.{silent, spoke}
 use Rattle.headend.specs.Requests.{Request}
 use Rattle.issuing.specs.Plan.{total, useOf}
 use Rattle.issuing.proofs.Planned.{grantIntervals}

@@ -13,9 +13,9 @@ use Rattle.message.specs.Map.{intervals, mapLength, afterNull, grantsTo, pendin
 use Rattle.message.specs.Reading.{headerFault, readOf}
 use Rattle.writer.specs.Writing.{bytesOf, headerOf, elementsOf, messageOf}
 use Rattle.station.specs.Records.{badPhase, recordFault}
-use Rattle.station.specs.Opportunities.{spaced, contentionIn, ownIn, contention, own}
-use Rattle.station.specs.Steps.{granted, lost, acknowledged, deferred, passing, offeredOwn, sending, waitingSince, sentBy}
-use Rattle.station.specs.Hearing.{stale, hearFault, readyPhase, quietPhase, phaseAfter, requestIn, stationAfter, hearing, hearOf}
+use Rattle.hearing.specs.Opportunities.{spaced, contentionIn, ownIn, contention, own}
+use Rattle.hearing.specs.Steps.{granted, lost, acknowledged, deferred, passing, offeredOwn, sending, waitingSince, sentBy}
+use Rattle.hearing.specs.Hearing.{stale, hearFault, readyPhase, quietPhase, phaseAfter, requestIn, stationAfter, hearing, hearOf}
 use Rattle.channel.specs.Numbers.{table, allHold}
 
 pub numbers : allHold table ≡ true

@@ -20,11 +20,11 @@ use Rattle.station.specs.declared.record.Phase.the-variants.{Idle, Wanting, Def
 use Rattle.station.specs.declared.record.Remembered.{Remembered}
 use Rattle.station.specs.declared.record.Remembered.the-variants.{Nothing, End}
 use Rattle.station.specs.declared.record.Station.{Station}
-use Rattle.station.specs.declared.record.Answer.the-variants as answer
-use Rattle.station.specs.declared.record.Hearing.{Hearing}
 use Rattle.station.specs.Records as station
-use Rattle.station.specs.Hearing.{stale, hearFault, burstsIn, requestIn, stationAfter, unheard, hearing, hearOf}
 use Rattle.station.specs.Offering.{idle, offerFault, wanting, offerOf}
+use Rattle.hearing.specs.declared.answer.Answer.the-variants as answer
+use Rattle.hearing.specs.declared.answer.Hearing.{Hearing}
+use Rattle.hearing.specs.Hearing.{stale, hearFault, burstsIn, requestIn, stationAfter, unheard, hearing, hearOf}
 use Rattle.headend.proofs.Checks.{handed-on}
 use Rattle.channel.proofs.Timing.{at, onward-at}
 use Rattle.channel.proofs.Invariant.{upTo, heardTo}

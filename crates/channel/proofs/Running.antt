@@ -25,12 +25,12 @@ use Rattle.message.proofs.grants.grant as grant'
 use Rattle.message.proofs.grants.grant.Reads as grant
 use Rattle.message.proofs.grants.grant.Kinds as grant-kinds
 use Rattle.station.specs.declared.record.Station.{Station}
-use Rattle.station.proofs.record.Station.hear as hear'
-use Rattle.station.proofs.record.Station.hear.Reads as hear
-use Rattle.station.proofs.record.Station.hear.Kinds as hear-kinds
 use Rattle.station.proofs.record.Station.offer as offer'
 use Rattle.station.proofs.record.Station.offer.Reads as offer
 use Rattle.station.proofs.record.Station.offer.Kinds as offer-kinds
+use Rattle.hearing.proofs.hearing.hear as hear'
+use Rattle.hearing.proofs.hearing.hear.Reads as hear
+use Rattle.hearing.proofs.hearing.hear.Kinds as hear-kinds
 use Rattle.headend.specs.declared.record.Headend.{Headend}
 use Rattle.headend.proofs.record.Headend.request as request'
 use Rattle.headend.proofs.record.Headend.request.Reads as request
@@ -52,7 +52,7 @@ module _ (κs : Lifetimes.Lfts 0) (a : World.ArgsD offer'.signature κs) (r : Wo
   unfolding step
   offer-code s i e = rw (post, e) refl
 
--- Station::hear, of the bytes of an issued MAP
+-- hear, of the bytes of an issued MAP
 module _ (κs : Lifetimes.Lfts 1) (a : World.ArgsD hear'.signature κs) (r : World.ResD hear'.signature κs) (t : Clauses.AtExit (Kinds'.endedOf 1 hear-kinds.ps hear-kinds.r) κs) (post : hear.Post κs a r t) where
   pub hear-code : (s : State) (i k : ℕ) (j : Issue) (js : List Issue) → i < length (s .stations) → from k (s .issues) ≡ j ∷ js → a .0 ≡ stationAt s i → now (a .1 .0) ≡ bytesOf j →
       step s (Hear i k (a .1 .1 .0 .0) (a .1 .1 .1 .0)) ≡ heardBy s i r (mapIn j)

@@ -19,7 +19,7 @@ use Rattle.message.proofs.Accepted.{keep-append}
 use Rattle.station.specs.declared.record.Phase.the-variants.{Idle}
 use Rattle.station.specs.declared.record.Station.{Station}
 use Rattle.station.specs.Offering.{wanting, offerOf}
-use Rattle.station.specs.Hearing.{hearFault, stationAfter, hearOf}
+use Rattle.hearing.specs.Hearing.{hearFault, stationAfter, hearOf}
 use Rattle.headend.specs.declared.record.Headend.{Headend}
 use Rattle.headend.specs.Requests.{Request, heldOf}
 use Rattle.headend.specs.Records.{withPlaces, requestFault, joined, requestOf}

@@ -13,12 +13,12 @@ use Rattle.slots.specs.Time.{earlier, movedOn}
 use Rattle.message.specs.Rules.{granting}
 use Rattle.message.specs.Map.{Map, Interval, intervals}
 use Rattle.station.specs.declared.record.Phase.the-variants.{Waiting}
-use Rattle.station.specs.declared.record.Answer.the-variants as answer
 use Rattle.station.specs.declared.record.Station.{Station}
-use Rattle.station.specs.declared.record.Hearing.{Hearing}
-use Rattle.station.specs.Hearing.{phaseAfter, requestIn, stationAfter}
-use Rattle.station.proofs.Heard.{Outcome}
-use Rattle.station.proofs.Heard.Outcome.{silent, spoke}
+use Rattle.hearing.specs.declared.answer.Answer.the-variants as answer
+use Rattle.hearing.specs.declared.answer.Hearing.{Hearing}
+use Rattle.hearing.specs.Hearing.{phaseAfter, requestIn, stationAfter}
+use Rattle.hearing.proofs.Heard.{Outcome}
+use Rattle.hearing.proofs.Heard.Outcome.{silent, spoke}
 use Rattle.headend.specs.Requests.{Request, heldOf}
 use Rattle.issuing.specs.declared.issuing.Issued.{Issued}
 use Rattle.issuing.specs.declared.issuing.Issued.the-variants as issued

@@ -11,11 +11,11 @@ use Rattle.message.specs.Map.{Interval, intervals, timeAt, endOf}
 use Rattle.message.specs.Rules.{granting}
 use Rattle.station.specs.declared.record.Phase.the-variants.{Waiting}
 use Rattle.station.specs.declared.record.Station.{Station}
-use Rattle.station.specs.declared.record.Answer.the-variants as answer
-use Rattle.station.specs.declared.record.Sent.{Sent}
 use Rattle.station.specs.declared.record.SetUp.the-variants as setUp
-use Rattle.station.specs.Hearing.{hearOf}
 use Rattle.station.specs.Offering as offering
+use Rattle.hearing.specs.declared.answer.Answer.the-variants as answer
+use Rattle.hearing.specs.declared.answer.Sent.{Sent}
+use Rattle.hearing.specs.Hearing.{hearOf}
 use Rattle.headend.specs.declared.record.Headend.{Headend}
 use Rattle.headend.specs.Requests.{Request, heldOf}
 use Rattle.headend.specs.Records as records

@@ -10,13 +10,13 @@ use Rattle.station.specs.declared.record.Phase.{Phase}
 use Rattle.station.specs.declared.record.Phase.the-variants.{Idle, Wanting, Deferring, Waiting}
 use Rattle.station.specs.declared.record.Remembered.the-variants as remembered
 use Rattle.station.specs.declared.record.Station.{Station}
-use Rattle.station.specs.declared.record.Sent.{Sent}
-use Rattle.station.specs.declared.record.Sent.the-variants as sent
-use Rattle.station.specs.declared.record.Answer.{Answer}
-use Rattle.station.specs.declared.record.Answer.the-variants as answer
-use Rattle.station.specs.declared.record.Hearing.{Hearing}
-use Rattle.station.specs.Hearing.{hearOf}
 use Rattle.station.specs.Offering.{offerOf}
+use Rattle.hearing.specs.declared.answer.Sent.{Sent}
+use Rattle.hearing.specs.declared.answer.Sent.the-variants as sent
+use Rattle.hearing.specs.declared.answer.Answer.{Answer}
+use Rattle.hearing.specs.declared.answer.Answer.the-variants as answer
+use Rattle.hearing.specs.declared.answer.Hearing.{Hearing}
+use Rattle.hearing.specs.Hearing.{hearOf}
 use Rattle.headend.specs.declared.record.Headend.{Headend}
 use Rattle.headend.specs.Requests.{Request}
 use Rattle.headend.specs.Records.{requestOf}

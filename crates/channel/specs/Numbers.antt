@@ -21,8 +21,8 @@ use Rattle.station.specs.declared.record.Phase.{Phase}
 use Rattle.station.specs.declared.record.Phase.the-variants.{Idle, Wanting, Deferring, Waiting}
 use Rattle.station.specs.declared.record.Remembered.the-variants as remembered
 use Rattle.station.specs.declared.record.Station.{Station}
-use Rattle.station.specs.Opportunities.{contentionIn}
-use Rattle.station.specs.Hearing.{hearOf}
+use Rattle.hearing.specs.Opportunities.{contentionIn}
+use Rattle.hearing.specs.Hearing.{hearOf}
 
 -- a case: what the definitions give, and what the paper says
 pub record Case : Type 0 where

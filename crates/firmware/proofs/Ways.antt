@@ -13,9 +13,9 @@ use Rattle.station.specs.declared.record.Phase.the-variants.{Idle, Wanting, Def
 use Rattle.station.specs.declared.record.Remembered.{Remembered}
 use Rattle.station.specs.declared.record.Remembered.the-variants.{Nothing, End}
 use Rattle.station.specs.declared.record.Offering.{Offering}
-use Rattle.station.specs.declared.record.Hearing.{Hearing}
 use Rattle.station.specs.Offering.{offerOf}
-use Rattle.station.specs.Hearing.{hearOf}
+use Rattle.hearing.specs.declared.answer.Hearing.{Hearing}
+use Rattle.hearing.specs.Hearing.{hearOf}
 use Rattle.firmware.specs.declared.layout.Parts.{Parts}
 use Rattle.firmware.specs.Layout.{remembered, phaseOf, partsOf, known, endIn, outOfRange, stationOf, numbersOf}
 use Rattle.firmware.specs.Calls.{offeredCode, offeredInto, offerCode, offerInto, heardCode, heardInto, heardAnswer, hearCode, hearInto, hearAnswer}

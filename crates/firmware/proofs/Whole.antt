@@ -30,9 +30,6 @@ use Rattle.message.specs.Element.{elementIn}
 use Rattle.message.proofs.Lists.{length-listed}
 use Rattle.message.proofs.Ways.{header-sound}
 use Rattle.station.specs.declared.record.Station.{Station}
-use Rattle.station.specs.declared.record.Answer.{Answer}
-use Rattle.station.specs.declared.record.Answer.the-variants as answer
-use Rattle.station.specs.declared.record.Hearing.{Hearing}
 use Rattle.station.specs.declared.record.Offered.{Offered}
 use Rattle.station.specs.declared.record.Offered.the-variants as offered
 use Rattle.station.specs.declared.record.Offering.{Offering}
@@ -40,7 +37,10 @@ use Rattle.station.specs.declared.record.SetUp.{SetUp}
 use Rattle.station.specs.declared.record.SetUp.the-variants as setUp
 use Rattle.station.specs.Records.{badSize, badR, badPhase, recordFault}
 use Rattle.station.specs.Offering.{fresh, idle, offerFault, offerOf, setUpOf}
-use Rattle.station.specs.Hearing.{width, stale, hearFault, hearing, hearingOf, hearOf}
+use Rattle.hearing.specs.declared.answer.Answer.{Answer}
+use Rattle.hearing.specs.declared.answer.Answer.the-variants as answer
+use Rattle.hearing.specs.declared.answer.Hearing.{Hearing}
+use Rattle.hearing.specs.Hearing.{width, stale, hearFault, hearing, hearingOf, hearOf}
 use Rattle.firmware.specs.Codes.{codeOf}
 
 abbrev pub Told : Refusal → Type 0

@@ -8,19 +8,19 @@ use Rattle.message.specs.declared.reading.Verdict.{Verdict}
 use Rattle.message.specs.declared.reading.Verdict.the-variants as verdict
 use Rattle.message.specs.declared.grants.Granted.{Granted}
 use Rattle.message.specs.declared.grants.Granted.the-variants as granted
-use Rattle.station.specs.declared.record.Sent.{Sent}
-use Rattle.station.specs.declared.record.Sent.the-variants as sent
 use Rattle.station.specs.declared.record.SetUp.{SetUp}
 use Rattle.station.specs.declared.record.SetUp.the-variants as setUp
 use Rattle.station.specs.declared.record.Offered.the-variants as offered
 use Rattle.station.specs.declared.record.Offering.{Offering}
 use Rattle.station.specs.declared.record.Station.{Station}
-use Rattle.station.specs.declared.record.Answer.{Answer}
 use Rattle.station.specs.declared.record.Offered.{Offered}
-use Rattle.station.specs.declared.record.Answer.the-variants as answer
-use Rattle.station.specs.declared.record.Hearing.{Hearing}
-use Rattle.station.specs.Hearing.{hearOf}
 use Rattle.station.specs.Offering.{offerOf}
+use Rattle.hearing.specs.declared.answer.Sent.{Sent}
+use Rattle.hearing.specs.declared.answer.Sent.the-variants as sent
+use Rattle.hearing.specs.declared.answer.Answer.{Answer}
+use Rattle.hearing.specs.declared.answer.Answer.the-variants as answer
+use Rattle.hearing.specs.declared.answer.Hearing.{Hearing}
+use Rattle.hearing.specs.Hearing.{hearOf}
 use Rattle.firmware.specs.Codes.{codeOf}
 use Rattle.firmware.specs.Layout.{outOfRange, stationOf, numbersOf}
 

@@ -8,14 +8,15 @@ use crate::layout::numbers;
 use crate::layout::out_of_range;
 use crate::layout::station_of;
 use crate::refusals::code_of;
+use hearing::Answer;
+use hearing::Sent;
+use hearing::hear;
 use message::Granted;
 use message::Reading;
 use message::Refusal;
 use message::Verdict;
 use slots::MiniSlot;
-use station::Answer;
 use station::Offered;
-use station::Sent;
 use station::SetUp;
 use station::Station;
 
@@ -141,7 +142,7 @@ pub extern "C" fn wickbadger_hear(
     if out_of_range(&*rec) {
         return Refusal::SIZE;
     }
-    let h = station_of(&*rec).hear(bytes, MiniSlot(present), draw);
+    let h = hear(station_of(&*rec), bytes, MiniSlot(present), draw);
     let st = h.station;
     let answer = h.answer;
     match answer {

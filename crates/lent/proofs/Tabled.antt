@@ -11,7 +11,7 @@ use lib.Seq.{take-all, take-suc-set, drop-set-lt, drop-cons, append-snoc}
 use borrow.Author.Tests.{lt-ltb, le-ltb, ltb-true, ltb-false}
 use Rattle.station.specs.Offering.{fresh}
 use Rattle.station.specs.declared.record.Station.{Station}
-use Rattle.station.specs.declared.record.Hearing.{Hearing}
+use Rattle.hearing.specs.declared.answer.Hearing.{Hearing}
 use Rattle.lent.specs.Table.{tableFault, fitOf, numberIn, placed, placedOf, recordsAfter, placesAfter, tableOf, placesOf}
 use Rattle.lent.specs.declared.table.Fit.{Fit}
 use Rattle.lent.specs.declared.table.Placed.{Placed}

@@ -4,8 +4,8 @@ use mathlib.Core.Path.{_≡_, sym, _∙_}
 use Prim.Native.Nat.{ℕ}
 use mathlib.Core.List.{List}
 use Rattle.station.specs.declared.record.Station.{Station}
-use Rattle.station.specs.declared.record.Answer.{Answer}
 use Rattle.station.specs.declared.record.Offered.{Offered}
+use Rattle.hearing.specs.declared.answer.Answer.{Answer}
 use Rattle.lent.specs.declared.forty.Window.{Window}
 use Rattle.lent.specs.declared.forty.Forty.{Forty}
 use Rattle.lent.specs.InPlace.{HearsInPlace, OffersInPlace}

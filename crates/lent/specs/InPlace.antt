@@ -3,10 +3,10 @@ use Prim.Native.Nat.{ℕ}
 use mathlib.Core.Path.{_≡_}
 use mathlib.Core.List.{List}
 use Rattle.station.specs.declared.record.Station.{Station}
-use Rattle.station.specs.declared.record.Answer.{Answer}
 use Rattle.station.specs.declared.record.Offered.{Offered}
-use Rattle.station.specs.Hearing.{hearOf}
 use Rattle.station.specs.Offering.{offerOf}
+use Rattle.hearing.specs.declared.answer.Answer.{Answer}
+use Rattle.hearing.specs.Hearing.{hearOf}
 
 -- a MAP heard: the record before and after, and the answer
 abbrev pub HearsInPlace : Station → List ℕ → ℕ → ℕ → Station → Answer → Type 0

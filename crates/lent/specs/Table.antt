@@ -7,10 +7,10 @@ use lib.Dec.{ltb, eqb}
 use lib.ListN.{length}
 use Rattle.message.specs.Refusals.{Size, numberOf}
 use Rattle.station.specs.declared.record.Station.{Station}
-use Rattle.station.specs.declared.record.Answer.{Answer}
-use Rattle.station.specs.declared.record.Answer.the-variants.{Heard, Refused}
-use Rattle.station.specs.declared.record.Hearing.{Hearing}
-use Rattle.station.specs.Hearing.{hearOf}
+use Rattle.hearing.specs.declared.answer.Answer.{Answer}
+use Rattle.hearing.specs.declared.answer.Answer.the-variants.{Heard, Refused}
+use Rattle.hearing.specs.declared.answer.Hearing.{Hearing}
+use Rattle.hearing.specs.Hearing.{hearOf}
 use Rattle.lent.specs.declared.table.Fit.{Fit}
 use Rattle.lent.specs.declared.table.Placed.{Placed}
 

@@ -1,14 +1,15 @@
 // The record lent and changed where it stands, over the by-value steps.
 ghost use Rattle.lent.specs.InPlace.{HearsInPlace, OffersInPlace};
+use hearing::Answer;
+use hearing::hear;
 use slots::MiniSlot;
-use station::Answer;
 use station::Offered;
 use station::Station;
 
 pub fn hear_in_place(rec: &mut Station, bytes: &[u8], present: MiniSlot, draw: u16) -> Answer
     ensures { λ r. ⌜ HearsInPlace (now (rec .entry)) (now (bytes .entry)) (present .0) draw (now (rec .exit)) r ⌝ }
 {
-    let h = (*rec).hear(bytes, present, draw);
+    let h = hear(*rec, bytes, present, draw);
     *rec = h.station;
     h.answer
 }

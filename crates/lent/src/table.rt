@@ -3,9 +3,10 @@ ghost use mathlib.Core.Path.{_≡_};
 ghost use Prim.Native.Nat.{_<_};
 ghost use lib.ListN.{length, getD};
 ghost use Rattle.lent.specs.Table.{fitOf, numberIn, placedOf, HearsTable};
+use hearing::Answer;
+use hearing::hear;
 use message::Refusal;
 use slots::MiniSlot;
-use station::Answer;
 use station::Station;
 
 // How many records are worked, and the table's own refusal number or 0.
@@ -61,7 +62,7 @@ fn hear_at(st: Station, bytes: &[u8], present: MiniSlot, draws: &[u16], i: usize
     requires { ⌜ i < length (now draws) ⌝ }
     ensures { λ r. ⌜ r ≡ placedOf st (now (bytes .entry)) (present .0) (getD (now (draws .entry)) i 0) ⌝ }
 {
-    let h = st.hear(bytes, present, draws[i]);
+    let h = hear(st, bytes, present, draws[i]);
     let station = h.station;
     let answer = h.answer;
     Placed {

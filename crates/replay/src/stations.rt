@@ -7,12 +7,12 @@ use crate::print::pair;
 use crate::print::refused;
 use crate::print::say;
 use crate::words;
+use hearing::Answer;
+use hearing::Sent;
 use slots::MiniSlot;
-use station::Answer;
 use station::Offered;
 use station::Phase;
 use station::Remembered;
-use station::Sent;
 use station::SetUp;
 use station::Station;
 
@@ -179,7 +179,7 @@ fn heard(answer: Answer) {
 
 fn hear(st: Station, ns: &[u32], bytes: &[u8]) -> Station {
     let draw = (number_at(ns, 2) % 65536) as u16;
-    let hearing = st.hear(bytes, MiniSlot(number_at(ns, 1)), draw);
+    let hearing = hearing::hear(st, bytes, MiniSlot(number_at(ns, 1)), draw);
     let answer = hearing.answer;
     heard(answer);
     print(hearing.station);

@@ -1,68 +1,29 @@
 -- The ways through the station's functions: one law each, about the definitions only.
 use mathlib.Core.Path.{_≡_, refl, sym, _∙_}
 use mathlib.Core.Bool.{Bool, true, false, not, _||_}
-use Prim.Native.Nat.{ℕ, _+_, _*_, _%_, _^_, _≤_, _<_}
-use mathlib.Core.List.{List, [], _∷_}
-use mathlib.Core.Logic.{_⊎_, inl, inr}
+use Prim.Native.Nat.{ℕ}
+use mathlib.Core.List.{[], _∷_}
+use mathlib.Core.Logic.{inl, inr}
 use types.Run.{OneOf}
 use denote.Enum.Declared
 use Rattle.station.proofs.record.Phase as phase
-use native.Mathlib.Nat.{mod-eq-of-lt, one-mul, zero-add}
-use lib.ListN.{length}
-use lib.Pow.{pow-mono}
 use native.Mathlib.Omega.{arith}
 use lib.Dec.{ltb}
-use borrow.Author.Tests.{lt-ltb, le-ltb, eq-eqb, ne-eqb, not-true}
+use borrow.Author.Tests.{ne-eqb, not-true}
 use Rattle.slots.specs.declared.time.MiniSlot.{MiniSlot}
-use Rattle.slots.specs.Time.{earlier, ahead, movedOn}
-use Rattle.message.specs.declared.reading.Reading.{Reading}
-use Rattle.message.specs.declared.reading.Verdict.{Verdict}
-use Rattle.message.specs.declared.reading.Verdict.the-variants.{Accepted, Refused}
-use Rattle.message.specs.Lists.{isEmpty}
-use Rattle.message.specs.Map.{intervals, grantsTo}
-use Rattle.message.specs.Reading.{readOf, mapOf}
-use Rattle.message.proofs.Accepted.{accepted}
-use Rattle.station.specs.declared.record.Sent.{Sent}
-use Rattle.station.specs.declared.record.Sent.the-variants as sent
-use Rattle.station.specs.declared.record.Answer.the-variants as answer
-use Rattle.station.specs.declared.record.Hearing.{Hearing}
-use Rattle.station.specs.declared.opportunity.Found.{Found}
-use Rattle.station.specs.declared.hearing.Taken.{Taken}
-use Rattle.message.specs.declared.fields.Fields.{Fields}
 use Rattle.message.specs.Sids.{unicast}
-use Rattle.message.specs.declared.refusal.Refusal.{Refusal}
 use Rattle.message.proofs.Ways.{said, said-not}
 use Rattle.station.specs.declared.record.Phase.{Phase}
 use Rattle.station.specs.declared.record.Phase.the-variants.{Idle, Wanting, Deferring, Waiting}
-use Rattle.station.specs.declared.record.Remembered.{Remembered}
-use Rattle.station.specs.declared.record.Remembered.the-variants.{Nothing, End}
 use Rattle.station.specs.declared.record.Station.{Station}
 use Rattle.station.specs.declared.record.Offered.the-variants as offered
 use Rattle.station.specs.declared.record.SetUp.the-variants as setUp
 use Rattle.station.specs.Records.{badSize, badR, badPhase, recordFault}
-use Rattle.station.specs.Backoffs.{firstExponent, nextExponent, drawn}
-use Rattle.station.specs.Opportunities.{contention, own}
-use Rattle.station.specs.Scan.{firstOf, foundIn}
-use Rattle.station.specs.Steps.{waitingWith, granted, lost, acknowledged, deferred, passing, offeredOwn, sending, waitingSince, sentBy}
-use Rattle.station.specs.Hearing.{stale, hearFault, hasPending, readyPhase, quietPhase, phaseAfter, requestIn, burstsIn, takenIn, stationAfter, hearing, hearingOf, hearOf}
 use Rattle.station.specs.Offering.{fresh, setUpOf, idle, offerFault, wanting, offerOf}
 
-abbrev tag : Phase → ℕ
-tag p = Declared.tagOf phase.the-type p
-
 -- an arm `_` is told that the tag is one of those that no other arm names
-module _ (P : Phase → Type 0) where
-  not-waiting : P Idle → ((size : ℕ) → P (Wanting size)) → ((exponent left retries size : ℕ) → P (Deferring exponent left retries size)) → (p : Phase) → OneOf (0 ∷ 1 ∷ 2 ∷ []) (tag p) → P p
-  not-waiting a b c Idle h = a
-  not-waiting a b c (Wanting size) h = b size
-  not-waiting a b c (Deferring exponent left retries size) h = c exponent left retries size
-  not-waiting a b c (Waiting exponent retries time size) h = absurd (elim h [ inl e ↦ omega arith | inr h ↦ elim h [ inl e ↦ omega arith | inr e ↦ omega arith ] ])
-
-  not-deferring : P Idle → ((size : ℕ) → P (Wanting size)) → ((exponent retries : ℕ) (time : MiniSlot) (size : ℕ) → P (Waiting exponent retries time size)) → (p : Phase) → OneOf (0 ∷ 1 ∷ 3 ∷ []) (tag p) → P p
-  not-deferring a b c Idle h = a
-  not-deferring a b c (Wanting size) h = b size
-  not-deferring a b c (Deferring exponent left retries size) h = absurd (elim h [ inl e ↦ omega arith | inr h ↦ elim h [ inl e ↦ omega arith | inr e ↦ omega arith ] ])
-  not-deferring a b c (Waiting exponent retries time size) h = c exponent retries time size
+abbrev pub tag : Phase → ℕ
+tag p = Declared.tagOf phase.the-type p
 
 module _ (p : Phase) where
   pub bad-idle : p ≡ Idle → false ≡ badPhase p
@@ -151,241 +112,4 @@ module _ (sid channel count r : ℕ) where
   unfolding setUpOf
   set-up-ready a b = rw (a, b) refl
 
--- the number of opportunities to pass, worked out in 32 bits
-pub power-fits : (exponent : ℕ) → exponent ≤ 15 → 1 * 2 ^ exponent % 4294967296 ≡ 2 ^ exponent
-power-fits exponent h = let most : 2 ^ exponent ≤ 2 ^ 15 = pow-mono h in rw (one-mul (2 ^ exponent)) (mod-eq-of-lt (omega arith))
-
--- a pending is asked for in Waiting alone
-module _ (b : Bool) (p : Phase) where
-  pub waiting-other : OneOf (0 ∷ 1 ∷ 2 ∷ []) (tag p) → false ≡ waitingWith b p
-  unfolding waitingWith
-  waiting-other h = not-waiting (λ q. false ≡ waitingWith b q) refl (λ size. refl) (λ exponent left retries size. refl) p h
-
-  pub waiting-waiting : (exponent retries : ℕ) (time : MiniSlot) (size : ℕ) (r : Bool) → p ≡ Waiting exponent retries time size → r ≡ b → r ≡ waitingWith b p
-  unfolding waitingWith
-  waiting-waiting exponent retries time size r e h = rw e h
-
--- .. and changes nothing elsewhere
-granted-asked : (b : Bool) (p : Phase) → granted (waitingWith b p) p ≡ granted b p
-unfolding granted waitingWith
-granted-asked b Idle = refl
-granted-asked b (Wanting size) = refl
-granted-asked b (Deferring exponent left retries size) = refl
-granted-asked b (Waiting exponent retries time size) = refl
-
-acknowledged-asked : (w : ℕ) (b : Bool) (f : Fields) (draw : ℕ) (p : Phase) → acknowledged w (waitingWith b p) f draw p ≡ acknowledged w b f draw p
-unfolding acknowledged waitingWith
-acknowledged-asked w b f draw Idle = refl
-acknowledged-asked w b f draw (Wanting size) = refl
-acknowledged-asked w b f draw (Deferring exponent left retries size) = refl
-acknowledged-asked w b f draw (Waiting exponent retries time size) = refl
-
-module _ (b : Bool) (p : Phase) where
-  pub granted-other : OneOf (0 ∷ 1 ∷ 2 ∷ []) (tag p) → Idle ≡ granted b p
-  unfolding granted
-  granted-other h = not-waiting (λ q. Idle ≡ granted b q) refl (λ size. refl) (λ exponent left retries size. refl) p h
-
-  module _ (exponent retries : ℕ) (time : MiniSlot) (size : ℕ) (is : p ≡ Waiting exponent retries time size) where
-    pub granted-pending : b ≡ true → Waiting exponent retries time size ≡ granted b p
-    unfolding granted
-    granted-pending h = rw (is, h) refl
-
-    pub granted-waiting : b ≡ false → Idle ≡ granted b p
-    unfolding granted
-    granted-waiting h = rw (is, h) refl
-
-module _ (f : Fields) (draw exponent retries size : ℕ) where
-  pub lost-dropped : 16 ≤ retries → Idle ≡ lost f draw exponent retries size
-  unfolding lost
-  lost-dropped h = rw (lt-ltb 16 (retries + 1) (omega arith)) refl
-
-  pub lost-again : (next left : ℕ) → retries < 16 → next ≡ nextExponent f exponent → left ≡ drawn draw next → Deferring next left (retries + 1) size ≡ lost f draw exponent retries size
-  unfolding lost
-  lost-again next left h n l = rw (le-ltb 16 (retries + 1) (omega arith), l, n) refl
-
-module _ (w : ℕ) (b : Bool) (f : Fields) (draw : ℕ) (p : Phase) where
-  pub acknowledged-other : OneOf (0 ∷ 1 ∷ 2 ∷ []) (tag p) → p ≡ acknowledged w b f draw p
-  unfolding acknowledged
-  acknowledged-other h = not-waiting (λ q. q ≡ acknowledged w b f draw q) refl (λ size. refl) (λ exponent left retries size. refl) p h
-
-  module _ (exponent retries : ℕ) (time : MiniSlot) (size : ℕ) (is : p ≡ Waiting exponent retries time size) where
-    pub acknowledged-pending : b ≡ true → Waiting exponent retries time size ≡ acknowledged w b f draw p
-    unfolding acknowledged
-    acknowledged-pending h = rw (is, h) refl
-
-    pub acknowledged-lost : (q : Phase) → b ≡ false → earlier w (time .0) (f .ack .0) ≡ true → q ≡ lost f draw exponent retries size → q ≡ acknowledged w b f draw p
-    unfolding acknowledged
-    acknowledged-lost q h e l = rw (is, h, e) l
-
-    pub acknowledged-waiting : b ≡ false → earlier w (time .0) (f .ack .0) ≡ false → Waiting exponent retries time size ≡ acknowledged w b f draw p
-    unfolding acknowledged
-    acknowledged-waiting h e = rw (is, h, e) refl
-
-module _ (f : Fields) (draw : ℕ) (p : Phase) where
-  pub deferred-wanting : (size left : ℕ) → p ≡ Wanting size → left ≡ drawn draw (firstExponent f) → Deferring (firstExponent f) left 0 size ≡ deferred f draw p
-  unfolding deferred
-  deferred-wanting size left e l = rw (e, l) refl
-
-  pub deferred-other : OneOf (0 ∷ 2 ∷ 3 ∷ []) (tag p) → p ≡ deferred f draw p
-  unfolding deferred
-  deferred-other h = go p h
-    where
-      go : (q : Phase) → OneOf (0 ∷ 2 ∷ 3 ∷ []) (tag q) → q ≡ deferred f draw q
-      go Idle h = refl
-      go (Wanting size) h = absurd (elim h [ inl e ↦ omega arith | inr h ↦ elim h [ inl e ↦ omega arith | inr e ↦ omega arith ] ])
-      go (Deferring exponent left retries size) h = refl
-      go (Waiting exponent retries time size) h = refl
-
--- step 4, by the first of the own Requests
-module _ (os cs : List ℕ) (p : Phase) (first : Sent) where
-  pub sending-other : OneOf (0 ∷ 1 ∷ 3 ∷ []) (tag p) → p ≡ sending os cs p
-  unfolding sending
-  sending-other h = not-deferring (λ q. q ≡ sending os cs q) refl (λ size. refl) (λ exponent retries time size. refl) p h
-
-  module _ (exponent left retries size : ℕ) (is : p ≡ Deferring exponent left retries size) (of : first ≡ firstOf sent.Nothing os) where
-    pub sending-own : (q : Phase) (time : MiniSlot) → first ≡ sent.At time → q ≡ Waiting exponent retries time size → q ≡ sending os cs p
-    unfolding sending firstOf offeredOwn
-    sending-own q time e h = rw is (h ∙ go os (sym of ∙ e))
-      where
-        go : (l : List ℕ) → firstOf sent.Nothing l ≡ sent.At time → Waiting exponent retries time size ≡ offeredOwn l cs exponent left retries size
-        go [] h = let z : _≡_ {A = ℕ} 0 1 = cc in absurd (omega arith)
-        go (t ∷ ts) h = let z : record { 0 = t } ≡ time = cc in rw z refl
-
-    pub sending-contention : (q : Phase) → first ≡ sent.Nothing → q ≡ passing cs exponent left retries size → q ≡ sending os cs p
-    unfolding sending firstOf offeredOwn
-    sending-contention q e h = rw is (h ∙ go os (sym of ∙ e))
-      where
-        go : (l : List ℕ) → firstOf sent.Nothing l ≡ sent.Nothing → passing cs exponent left retries size ≡ offeredOwn l cs exponent left retries size
-        go [] h = refl
-        go (t ∷ ts) h = let z : _≡_ {A = ℕ} 0 1 = cc in absurd (omega arith)
-
-module _ (p : Phase) where
-  pub since-other : OneOf (0 ∷ 1 ∷ 2 ∷ []) (tag p) → sent.Nothing ≡ waitingSince p
-  unfolding waitingSince
-  since-other h = not-waiting (λ q. sent.Nothing ≡ waitingSince q) refl (λ size. refl) (λ exponent left retries size. refl) p h
-
-  pub since-waiting : (exponent retries : ℕ) (time : MiniSlot) (size : ℕ) → p ≡ Waiting exponent retries time size → sent.At time ≡ waitingSince p
-  unfolding waitingSince
-  since-waiting exponent retries time size e = rw e refl
-
-  module _ (after : Phase) where
-    pub sent-other : OneOf (0 ∷ 1 ∷ 3 ∷ []) (tag p) → sent.Nothing ≡ sentBy p after
-    unfolding sentBy
-    sent-other h = not-deferring (λ q. sent.Nothing ≡ sentBy q after) refl (λ size. refl) (λ exponent retries time size. refl) p h
-
-    pub sent-deferring : (exponent left retries size : ℕ) (s : Sent) → p ≡ Deferring exponent left retries size → s ≡ waitingSince after → s ≡ sentBy p after
-    unfolding sentBy
-    sent-deferring exponent left retries size s e h = rw e h
-
-module _ (end : Remembered) (start : ℕ) where
-  pub stale-never : end ≡ Nothing → false ≡ stale 32 end start
-  unfolding stale
-  stale-never e = rw e refl
-
-  pub stale-end : (time : MiniSlot) (a : ℕ) → end ≡ End time → a ≡ ahead 32 (time .0) start → not (ltb a 2147483648) ≡ stale 32 end start
-  unfolding stale
-  stale-end time a e h = rw (e, h) refl
-
-module _ (st : Station) (f : Fields) (present : ℕ) where
-  pub hear-12 : (f .channel ≡ st .channel → ⊥) → 12 ≡ hearFault st f present
-  unfolding hearFault
-  hear-12 a = rw (ne-eqb (f .channel) (st .channel) a) refl
-
-  module _ (a : f .channel ≡ st .channel) where
-    pub hear-13 : (f .count ≡ st .count → ⊥) → 13 ≡ hearFault st f present
-    unfolding hearFault
-    hear-13 b = rw (eq-eqb (f .channel) (st .channel) a, ne-eqb (f .count) (st .count) b) refl
-
-    module _ (b : f .count ≡ st .count) where
-      pub hear-14 : stale 32 (st .end) (f .start .0) ≡ true → 14 ≡ hearFault st f present
-      unfolding hearFault
-      hear-14 c = rw (eq-eqb (f .channel) (st .channel) a, eq-eqb (f .count) (st .count) b, c) refl
-
-      pub hear-15 : stale 32 (st .end) (f .start .0) ≡ false → not (earlier 32 present (f .start .0)) ≡ true → 15 ≡ hearFault st f present
-      unfolding hearFault
-      hear-15 c d = rw (eq-eqb (f .channel) (st .channel) a, eq-eqb (f .count) (st .count) b, c, d) refl
-
-      pub hear-good : stale 32 (st .end) (f .start .0) ≡ false → not (earlier 32 present (f .start .0)) ≡ false → 0 ≡ hearFault st f present
-      unfolding hearFault
-      hear-good c d = rw (eq-eqb (f .channel) (st .channel) a, eq-eqb (f .count) (st .count) b, c, d) refl
-
-some : {A : Type 0} (xs : List A) → (length xs ≡ 0 → ⊥) → not (isEmpty xs) ≡ true
-some [] h = absurd (h refl)
-some (x ∷ xs) h = refl
-
-none : {A : Type 0} (xs : List A) → length xs ≡ 0 → not (isEmpty xs) ≡ false
-none [] h = refl
-none (x ∷ xs) h = absurd (omega arith)
-
-module _ (s : List ℕ) (reading : Reading) (ok : readOf s ≡ Accepted reading) where
-  pub starts-small : reading .fields .«data» .start ≤ 15
-  starts-small = accepted s reading ok .first-exponent
-
-  pub ends-small : reading .fields .«data» .end ≤ 15
-  ends-small = accepted s reading ok .last-exponent
-
-  module _ (st : Station) (present draw f : ℕ) (is : f ≡ hearFault st (reading .fields) present) where
-    pub hear-refused : (f ≡ 0 → ⊥) → record { station = st; answer = answer.Refused (record { number = f; element = 0 }) } ≡ hearing st (mapOf s) present draw
-    unfolding hearing
-    hear-refused h = rw (← accepted s reading ok .fields, ne-eqb (hearFault st (reading .fields) present) 0 (λ z. h (is ∙ z)), ← is) refl
-
-    pub hear-heard : (taken : Taken) (end : MiniSlot) → f ≡ 0 → taken ≡ takenIn st (mapOf s) draw → end .0 ≡ movedOn 32 (reading .fields .start .0) (reading .length) →
-        _≡_ {A = Hearing} (record {
-          station = record { sid = st .sid; channel = st .channel; count = st .count; r = st .r; end = End end; phase = taken .phase };
-          answer = answer.Heard (taken .bursts) (taken .request);
-        }) (hearing st (mapOf s) present draw)
-    unfolding hearing stationAfter
-    hear-heard taken end z t e =
-        let a = accepted s reading ok in
-        let at : end ≡ record { 0 = movedOn 32 (reading .fields .start .0) (reading .length) } = λ i. record { 0 = e i } in
-        rw (t, at, ← a .ends, ← a .fields, sym is ∙ z) refl
-
--- hearing what was read
-module _ (st : Station) (s : List ℕ) (v : Verdict) (present draw : ℕ) where
-  pub verdict-refused : (why : Refusal) → v ≡ readOf s → v ≡ Refused why → record { station = st; answer = answer.Refused why } ≡ hearingOf st (readOf s) (mapOf s) present draw
-  verdict-refused why h e = rw (sym h ∙ e) refl
-
-  pub verdict-accepted : (reading : Reading) (r : Hearing) → v ≡ readOf s → v ≡ Accepted reading → r ≡ hearing st (mapOf s) present draw → r ≡ hearingOf st (readOf s) (mapOf s) present draw
-  verdict-accepted reading r h e k = rw (sym h ∙ e) k
-
-pub verdict-read : (s : List ℕ) (v : Verdict) (reading : Reading) → v ≡ readOf s → v ≡ Accepted reading → readOf s ≡ Accepted reading
-verdict-read s v reading h e = sym h ∙ e
-
-module _ (st : Station) (s : List ℕ) (present draw f : ℕ) (is : f ≡ recordFault st) where
-  pub hear-record : (f ≡ 0 → ⊥) → record { station = st; answer = answer.Refused (record { number = f; element = 0 }) } ≡ hearOf st s present draw
-  unfolding hearOf
-  hear-record h = rw (ne-eqb (recordFault st) 0 (λ z. h (is ∙ z)), ← is) refl
-
-  pub hear-message : (r : Hearing) → f ≡ 0 → r ≡ hearingOf st (readOf s) (mapOf s) present draw → r ≡ hearOf st s present draw
-  unfolding hearOf
-  hear-message r h e = rw (sym is ∙ h) e
-
--- the four steps together
-module _ (s : List ℕ) (reading : Reading) (ok : readOf s ≡ Accepted reading) (st : Station) (found : Found) (is : found ≡ foundIn (reading .fields .start .0) (st .sid) (st .r) (record { bursts = 0; own = sent.Nothing }) (intervals (mapOf s .elements))) where
-  found-bursts : found .bursts ≡ burstsIn st (mapOf s)
-  unfolding foundIn grantsTo
-  found-bursts = rw (is, zero-add) refl
-
-  pub found-own : found .own ≡ firstOf sent.Nothing (own (st .sid) (st .r) (mapOf s))
-  unfolding foundIn own
-  found-own = rw (is, accepted s reading ok .fields) refl
-
-  module _ (draw : ℕ) (waits : Bool) (pending : waits ≡ waitingWith (hasPending st (mapOf s)) (st .phase)) where
-    pub taken-granted : (q : Phase) → (found .bursts ≡ 0 → ⊥) → q ≡ granted waits (st .phase) → record { bursts = found .bursts; phase = q; request = sent.Nothing } ≡ takenIn st (mapOf s) draw
-    unfolding phaseAfter requestIn
-    taken-granted q h g = rw (some (grantsTo (st .sid) (mapOf s .elements)) (λ z. h (found-bursts ∙ z)), g, pending, granted-asked (hasPending st (mapOf s)) (st .phase), found-bursts) refl
-
-    pub taken-quiet : (p ready after : Phase) (request : Sent) → found .bursts ≡ 0 → p ≡ acknowledged 32 waits (reading .fields) draw (st .phase) → ready ≡ deferred (reading .fields) draw p →
-        after ≡ sending (own (st .sid) (st .r) (mapOf s)) (contention (st .r) (mapOf s)) ready → request ≡ sentBy ready after →
-        record { bursts = 0; phase = after; request = request } ≡ takenIn st (mapOf s) draw
-    unfolding phaseAfter requestIn quietPhase readyPhase
-    taken-quiet p ready after request h a d e r =
-        rw (none (grantsTo (st .sid) (mapOf s .elements)) (sym found-bursts ∙ h), sym found-bursts ∙ h, r, e, d, a, pending, acknowledged-asked 32 (hasPending st (mapOf s)) (reading .fields) draw (st .phase), accepted s reading ok .fields) refl
-
 pub ruleset record-ways = (said, said-not, not-true, bad-idle, bad-wanting, bad-deferring, bad-waiting, busy-idle, busy-other, record-6, record-r, record-phase, record-good, offer-record, offer-16, offer-17, offer-good, offer-refused, offer-taken, set-up-6, set-up-17, set-up-ready)
-
-pub ruleset step-ways = (said, said-not, not-true, waiting-other, waiting-waiting, granted-other, granted-pending, granted-waiting, lost-dropped, lost-again, acknowledged-other, acknowledged-pending, acknowledged-lost, acknowledged-waiting, deferred-wanting, deferred-other)
-
-pub ruleset send-ways = (sending-other, sending-own, sending-contention, since-other, since-waiting, sent-other, sent-deferring)
-
-pub ruleset hear-ways = (said, said-not, not-true, stale-never, stale-end, hear-12, hear-13, hear-14, hear-15, hear-good)

@@ -42,22 +42,6 @@ pub struct Station {
     pub phase: Phase,
 }
 
-// A request sent, by its first mini-slot, or none.
-pub enum Sent {
-    Nothing,
-    At(MiniSlot),
-}
-
-pub enum Answer {
-    Heard { bursts: u32, request: Sent },
-    Refused(Refusal),
-}
-
-pub struct Hearing {
-    pub station: Station,
-    pub answer: Answer,
-}
-
 pub enum Offered {
     Taken,
     Refused(Refusal),
@@ -139,7 +123,7 @@ fn bad_phase(phase: Phase) -> bool
 }
 
 // Why a record handed in is refused, or 0.
-pub(crate) fn record_fault(st: Station) -> u32
+pub fn record_fault(st: Station) -> u32
     ensures { λ r. ⌜ r ≡ recordFault st ⌝ }
 {
     if bad_sid(st.sid) {

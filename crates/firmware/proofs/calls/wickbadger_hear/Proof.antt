@@ -1,4 +1,4 @@
-use Rattle.station.specs.declared.record.Answer.{Answer}
+use Rattle.hearing.specs.declared.answer.Answer.{Answer}
 use Rattle.message.proofs.Ways.{said}
 use mathlib.Core.List.{[], _∷_}
 use mathlib.Core.Path.{_∙_, sym, ap}

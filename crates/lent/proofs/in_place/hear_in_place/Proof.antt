@@ -42,23 +42,23 @@ use denote.Triple.Spec.{Meets, tripleOf}
 use denote.Triple.Table.{entered, cited}
 use denote.Triple.Walked.{says, Stays, stay-ref, stay-none, stay-none-slice, walkOf, goes-ref, goes-none, goes-none-slice, Walks, ends-at, walked, walk-meets}
 use denote.Exit.{yes}
-use Rattle.station.specs.Hearing.{hearOf}
+use Rattle.hearing.specs.Hearing.{hearOf}
 use Rattle.slots.specs.declared.time.MiniSlot.{MiniSlot}
 use Rattle.slots.proofs.time.MiniSlot as N
 use Rattle.slots.proofs.time.MiniSlot.Laws as N′
 use Rattle.station.specs.declared.record.Station.{Station}
-use Rattle.station.specs.declared.record.Hearing.{Hearing}
 use Rattle.station.proofs.record.Station as T
 use Rattle.station.proofs.record.Station.Laws as T′
-use Rattle.station.proofs.record.Hearing as R
-use Rattle.station.proofs.record.Hearing.Laws as R′
-use Rattle.station.specs.declared.record.Answer.{Answer}
-use Rattle.station.proofs.record.Answer as S
-use Rattle.station.proofs.record.Answer.Laws as S′
-use Rattle.station.proofs.record.Station.hear as hear
-use Rattle.station.proofs.record.Station.hear.Symbol as hear-def
-use Rattle.station.proofs.record.Station.hear.Symbol.{name as #hear}
-use Rattle.station.proofs.record.Station.hear.Met as hear-thm
+use Rattle.hearing.specs.declared.answer.Hearing.{Hearing}
+use Rattle.hearing.proofs.answer.Hearing as R
+use Rattle.hearing.proofs.answer.Hearing.Laws as R′
+use Rattle.hearing.specs.declared.answer.Answer.{Answer}
+use Rattle.hearing.proofs.answer.Answer as S
+use Rattle.hearing.proofs.answer.Answer.Laws as S′
+use Rattle.hearing.proofs.hearing.hear as hear
+use Rattle.hearing.proofs.hearing.hear.Symbol as hear-def
+use Rattle.hearing.proofs.hearing.hear.Symbol.{name as #hear}
+use Rattle.hearing.proofs.hearing.hear.Met as hear-thm
 use Rattle.lent.proofs.in_place.hear_in_place.Key.{name as #hear-in-place}
 use Rattle.lent.proofs.in_place.hear_in_place as this
 use Rattle.lent.proofs.in_place.hear_in_place.Statement as stated
@@ -172,4 +172,4 @@ hear-in-place-spec 𝓤 H 𝓜 𝓖 𝓡 =
     entered 𝓤 H (tripleOf 𝓤 H (𝓖 .A) this.signature (this.spec 𝓤 H (𝓖 .A) (𝓜 .mem) (𝓡 .run)))
     (tables 𝓤 H 𝓜 𝓡 code.env .C) (tables 𝓤 H 𝓜 𝓡 code.env .Λ) #hear-in-place code.function (code.unfolded 𝓤 H 𝓜 𝓡)
     (meets 𝓤 H (𝓖 .A) (givenOf 𝓤 H 𝓜 𝓖) (𝓜 .mem) (𝓡 .run) (tablesOf 𝓤 H 𝓜 (tables 𝓤 H 𝓜 𝓡 code.env))
-    (cited 𝓤 H (Hear 𝓤 H (𝓖 .A) (𝓜 .mem) (𝓡 .run)) 𝓜 𝓡 code.env #hear hear-def.routine code.calls-station·record·Station·hear (hear-thm.met 𝓤 H 𝓜 𝓖 𝓡)))
+    (cited 𝓤 H (Hear 𝓤 H (𝓖 .A) (𝓜 .mem) (𝓡 .run)) 𝓜 𝓡 code.env #hear hear-def.routine code.calls-hearing·hearing·hear (hear-thm.met 𝓤 H 𝓜 𝓖 𝓡)))

@@ -1,0 +1,5 @@
+pub mod Opportunities
+pub mod Backoffs
+pub mod Steps
+pub mod Hearing
+pub mod Scan
