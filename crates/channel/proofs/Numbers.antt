@@ -13,8 +13,9 @@ use Rattle.message.specs.Map.{intervals, mapLength, afterNull, grantsTo, pendin
 use Rattle.message.specs.Reading.{headerFault, readOf}
 use Rattle.writer.specs.Writing.{bytesOf, headerOf, elementsOf, messageOf}
 use Rattle.station.specs.Records.{badPhase, recordFault}
+use Rattle.backoff.specs.Steps.{lost, acknowledged, deferred}
 use Rattle.hearing.specs.Opportunities.{spaced, contentionIn, ownIn, contention, own}
-use Rattle.hearing.specs.Steps.{granted, lost, acknowledged, deferred, passing, offeredOwn, sending, waitingSince, sentBy}
+use Rattle.hearing.specs.Steps.{granted, passing, offeredOwn, sending, waitingSince, sentBy}
 use Rattle.hearing.specs.Hearing.{stale, hearFault, readyPhase, quietPhase, phaseAfter, requestIn, stationAfter, hearing, hearOf}
 use Rattle.channel.specs.Numbers.{table, allHold}
 

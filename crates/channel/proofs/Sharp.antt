@@ -21,8 +21,9 @@ use Rattle.station.specs.declared.record.Phase.{Phase}
 use Rattle.station.specs.declared.record.Phase.the-variants.{Idle, Wanting, Deferring, Waiting}
 use Rattle.station.specs.Records as station
 use Rattle.station.specs.Offering as offering
+use Rattle.backoff.specs.Steps.{lost, acknowledged, deferred}
 use Rattle.hearing.specs.Opportunities.{spaced, contentionIn, ownIn, contention, own}
-use Rattle.hearing.specs.Steps.{lost, acknowledged, deferred, passing, offeredOwn, sending, waitingSince, sentBy}
+use Rattle.hearing.specs.Steps.{passing, offeredOwn, sending, waitingSince, sentBy}
 use Rattle.hearing.specs.Steps as steps
 use Rattle.hearing.specs.Hearing.{stale, hearFault, readyPhase, quietPhase, phaseAfter, requestIn, stationAfter, hearing, hearOf}
 use Rattle.headend.specs.Requests.{Request, heldOf}

@@ -13,11 +13,12 @@ use Rattle.message.specs.Map.{Map, grantsTo, pendingsTo, mapLength}
 use Rattle.station.specs.declared.record.Phase.{Phase}
 use Rattle.station.specs.declared.record.Phase.the-variants.{Idle, Wanting, Deferring, Waiting}
 use Rattle.station.specs.declared.record.Station.{Station}
+use Rattle.backoff.specs.Backoffs.{firstExponent, nextExponent, drawn}
+use Rattle.backoff.specs.Steps.{lost, acknowledged, deferred}
 use Rattle.hearing.specs.declared.answer.Sent.{Sent}
 use Rattle.hearing.specs.declared.answer.Sent.the-variants.{Nothing, At}
-use Rattle.hearing.specs.Backoffs.{firstExponent, nextExponent, drawn}
 use Rattle.hearing.specs.Opportunities.{own, contention}
-use Rattle.hearing.specs.Steps.{granted, lost, acknowledged, deferred, passing, offeredOwn, sending, waitingSince, sentBy}
+use Rattle.hearing.specs.Steps.{granted, passing, offeredOwn, sending, waitingSince, sentBy}
 use Rattle.hearing.specs.Hearing.{width, hearFault, hasGrant, hasPending, readyPhase, quietPhase, phaseAfter, requestIn, stationAfter, hearing}
 
 -- two MAPs that say the same to a station

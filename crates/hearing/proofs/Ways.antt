@@ -1,16 +1,14 @@
 -- The ways through the functions of a hearing: one law each, about the definitions only.
 use mathlib.Core.Path.{_≡_, refl, sym, _∙_}
 use mathlib.Core.Bool.{Bool, true, false, not}
-use Prim.Native.Nat.{ℕ, _+_, _*_, _%_, _^_, _≤_, _<_}
+use Prim.Native.Nat.{ℕ}
 use mathlib.Core.List.{List, [], _∷_}
-use mathlib.Core.Logic.{inl, inr}
 use types.Run.{OneOf}
-use native.Mathlib.Nat.{mod-eq-of-lt, one-mul, zero-add}
+use native.Mathlib.Nat.{zero-add}
 use lib.ListN.{length}
-use lib.Pow.{pow-mono}
 use native.Mathlib.Omega.{arith}
 use lib.Dec.{ltb}
-use borrow.Author.Tests.{lt-ltb, le-ltb, eq-eqb, ne-eqb, not-true}
+use borrow.Author.Tests.{eq-eqb, ne-eqb, not-true}
 use Rattle.slots.specs.declared.time.MiniSlot.{MiniSlot}
 use Rattle.slots.specs.Time.{earlier, ahead, movedOn}
 use Rattle.message.specs.declared.reading.Reading.{Reading}
@@ -29,36 +27,18 @@ use Rattle.station.specs.declared.record.Remembered.{Remembered}
 use Rattle.station.specs.declared.record.Remembered.the-variants.{Nothing, End}
 use Rattle.station.specs.declared.record.Station.{Station}
 use Rattle.station.specs.Records.{recordFault}
-use Rattle.station.proofs.Ways.{tag}
+use Rattle.station.proofs.Ways.{tag, not-waiting, not-deferring}
+use Rattle.backoff.specs.Steps.{acknowledged, deferred}
 use Rattle.hearing.specs.declared.answer.Sent.{Sent}
 use Rattle.hearing.specs.declared.answer.Sent.the-variants as sent
 use Rattle.hearing.specs.declared.answer.Answer.the-variants as answer
 use Rattle.hearing.specs.declared.answer.Hearing.{Hearing}
 use Rattle.hearing.specs.declared.opportunity.Found.{Found}
 use Rattle.hearing.specs.declared.hearing.Taken.{Taken}
-use Rattle.hearing.specs.Backoffs.{firstExponent, nextExponent, drawn}
 use Rattle.hearing.specs.Opportunities.{contention, own}
-use Rattle.hearing.specs.Steps.{granted, lost, acknowledged, deferred, passing, offeredOwn, sending, waitingSince, sentBy}
+use Rattle.hearing.specs.Steps.{granted, passing, offeredOwn, sending, waitingSince, sentBy}
 use Rattle.hearing.specs.Hearing.{stale, hearFault, hasPending, readyPhase, quietPhase, phaseAfter, requestIn, burstsIn, stationAfter, hearing, hearingOf, hearOf}
 use Rattle.hearing.specs.Scan.{firstOf, foundIn, waitingWith, takenIn}
-
--- by the tags that an arm `_` is told
-module _ (P : Phase → Type 0) where
-  not-waiting : P Idle → ((size : ℕ) → P (Wanting size)) → ((exponent left retries size : ℕ) → P (Deferring exponent left retries size)) → (p : Phase) → OneOf (0 ∷ 1 ∷ 2 ∷ []) (tag p) → P p
-  not-waiting a b c Idle h = a
-  not-waiting a b c (Wanting size) h = b size
-  not-waiting a b c (Deferring exponent left retries size) h = c exponent left retries size
-  not-waiting a b c (Waiting exponent retries time size) h = absurd (elim h [ inl e ↦ omega arith | inr h ↦ elim h [ inl e ↦ omega arith | inr e ↦ omega arith ] ])
-
-  not-deferring : P Idle → ((size : ℕ) → P (Wanting size)) → ((exponent retries : ℕ) (time : MiniSlot) (size : ℕ) → P (Waiting exponent retries time size)) → (p : Phase) → OneOf (0 ∷ 1 ∷ 3 ∷ []) (tag p) → P p
-  not-deferring a b c Idle h = a
-  not-deferring a b c (Wanting size) h = b size
-  not-deferring a b c (Deferring exponent left retries size) h = absurd (elim h [ inl e ↦ omega arith | inr h ↦ elim h [ inl e ↦ omega arith | inr e ↦ omega arith ] ])
-  not-deferring a b c (Waiting exponent retries time size) h = c exponent retries time size
-
--- the number of opportunities to pass, worked out in 32 bits
-pub power-fits : (exponent : ℕ) → exponent ≤ 15 → 1 * 2 ^ exponent % 4294967296 ≡ 2 ^ exponent
-power-fits exponent h = let most : 2 ^ exponent ≤ 2 ^ 15 = pow-mono h in rw (one-mul (2 ^ exponent)) (mod-eq-of-lt (omega arith))
 
 -- a pending is asked for in Waiting alone
 module _ (b : Bool) (p : Phase) where
@@ -98,48 +78,6 @@ module _ (b : Bool) (p : Phase) where
     pub granted-waiting : b ≡ false → Idle ≡ granted b p
     unfolding granted
     granted-waiting h = rw (is, h) refl
-
-module _ (f : Fields) (draw exponent retries size : ℕ) where
-  pub lost-dropped : 16 ≤ retries → Idle ≡ lost f draw exponent retries size
-  unfolding lost
-  lost-dropped h = rw (lt-ltb 16 (retries + 1) (omega arith)) refl
-
-  pub lost-again : (next left : ℕ) → retries < 16 → next ≡ nextExponent f exponent → left ≡ drawn draw next → Deferring next left (retries + 1) size ≡ lost f draw exponent retries size
-  unfolding lost
-  lost-again next left h n l = rw (le-ltb 16 (retries + 1) (omega arith), l, n) refl
-
-module _ (w : ℕ) (b : Bool) (f : Fields) (draw : ℕ) (p : Phase) where
-  pub acknowledged-other : OneOf (0 ∷ 1 ∷ 2 ∷ []) (tag p) → p ≡ acknowledged w b f draw p
-  unfolding acknowledged
-  acknowledged-other h = not-waiting (λ q. q ≡ acknowledged w b f draw q) refl (λ size. refl) (λ exponent left retries size. refl) p h
-
-  module _ (exponent retries : ℕ) (time : MiniSlot) (size : ℕ) (is : p ≡ Waiting exponent retries time size) where
-    pub acknowledged-pending : b ≡ true → Waiting exponent retries time size ≡ acknowledged w b f draw p
-    unfolding acknowledged
-    acknowledged-pending h = rw (is, h) refl
-
-    pub acknowledged-lost : (q : Phase) → b ≡ false → earlier w (time .0) (f .ack .0) ≡ true → q ≡ lost f draw exponent retries size → q ≡ acknowledged w b f draw p
-    unfolding acknowledged
-    acknowledged-lost q h e l = rw (is, h, e) l
-
-    pub acknowledged-waiting : b ≡ false → earlier w (time .0) (f .ack .0) ≡ false → Waiting exponent retries time size ≡ acknowledged w b f draw p
-    unfolding acknowledged
-    acknowledged-waiting h e = rw (is, h, e) refl
-
-module _ (f : Fields) (draw : ℕ) (p : Phase) where
-  pub deferred-wanting : (size left : ℕ) → p ≡ Wanting size → left ≡ drawn draw (firstExponent f) → Deferring (firstExponent f) left 0 size ≡ deferred f draw p
-  unfolding deferred
-  deferred-wanting size left e l = rw (e, l) refl
-
-  pub deferred-other : OneOf (0 ∷ 2 ∷ 3 ∷ []) (tag p) → p ≡ deferred f draw p
-  unfolding deferred
-  deferred-other h = go p h
-    where
-      go : (q : Phase) → OneOf (0 ∷ 2 ∷ 3 ∷ []) (tag q) → q ≡ deferred f draw q
-      go Idle h = refl
-      go (Wanting size) h = absurd (elim h [ inl e ↦ omega arith | inr h ↦ elim h [ inl e ↦ omega arith | inr e ↦ omega arith ] ])
-      go (Deferring exponent left retries size) h = refl
-      go (Waiting exponent retries time size) h = refl
 
 -- step 4, by the first of the own Requests
 module _ (os cs : List ℕ) (p : Phase) (first : Sent) where
@@ -223,12 +161,6 @@ none [] h = refl
 none (x ∷ xs) h = absurd (omega arith)
 
 module _ (s : List ℕ) (reading : Reading) (ok : readOf s ≡ Accepted reading) where
-  pub starts-small : reading .fields .«data» .start ≤ 15
-  starts-small = accepted s reading ok .first-exponent
-
-  pub ends-small : reading .fields .«data» .end ≤ 15
-  ends-small = accepted s reading ok .last-exponent
-
   module _ (st : Station) (present draw f : ℕ) (is : f ≡ hearFault st (reading .fields) present) where
     pub hear-refused : (f ≡ 0 → ⊥) → record { station = st; answer = answer.Refused (record { number = f; element = 0 }) } ≡ hearing st (mapOf s) present draw
     unfolding hearing
@@ -280,14 +212,14 @@ module _ (s : List ℕ) (reading : Reading) (ok : readOf s ≡ Accepted reading)
     unfolding phaseAfter requestIn
     taken-granted q h g = rw (some (grantsTo (st .sid) (mapOf s .elements)) (λ z. h (found-bursts ∙ z)), g, pending, granted-asked (hasPending st (mapOf s)) (st .phase), found-bursts) refl
 
-    pub taken-quiet : (p ready after : Phase) (request : Sent) → found .bursts ≡ 0 → p ≡ acknowledged 32 waits (reading .fields) draw (st .phase) → ready ≡ deferred (reading .fields) draw p →
+    pub taken-quiet : (ready after : Phase) (request : Sent) → found .bursts ≡ 0 → ready ≡ deferred (reading .fields) draw (acknowledged 32 waits (reading .fields) draw (st .phase)) →
         after ≡ sending (own (st .sid) (st .r) (mapOf s)) (contention (st .r) (mapOf s)) ready → request ≡ sentBy ready after →
         record { bursts = 0; phase = after; request = request } ≡ takenIn st (mapOf s) draw
     unfolding phaseAfter requestIn quietPhase readyPhase
-    taken-quiet p ready after request h a d e r =
-        rw (none (grantsTo (st .sid) (mapOf s .elements)) (sym found-bursts ∙ h), sym found-bursts ∙ h, r, e, d, a, pending, acknowledged-asked 32 (hasPending st (mapOf s)) (reading .fields) draw (st .phase), accepted s reading ok .fields) refl
+    taken-quiet ready after request h d e r =
+        rw (none (grantsTo (st .sid) (mapOf s .elements)) (sym found-bursts ∙ h), sym found-bursts ∙ h, r, e, d, pending, acknowledged-asked 32 (hasPending st (mapOf s)) (reading .fields) draw (st .phase), accepted s reading ok .fields) refl
 
-pub ruleset step-ways = (said, said-not, not-true, waiting-other, waiting-waiting, granted-other, granted-pending, granted-waiting, lost-dropped, lost-again, acknowledged-other, acknowledged-pending, acknowledged-lost, acknowledged-waiting, deferred-wanting, deferred-other)
+pub ruleset step-ways = (said, said-not, not-true, waiting-other, waiting-waiting, granted-other, granted-pending, granted-waiting)
 
 pub ruleset send-ways = (sending-other, sending-own, sending-contention, since-other, since-waiting, sent-other, sent-deferring)
 

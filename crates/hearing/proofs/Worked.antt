@@ -12,14 +12,15 @@ use Rattle.station.specs.declared.record.Phase.{Phase}
 use Rattle.station.specs.declared.record.Phase.the-variants.{Idle, Wanting, Deferring, Waiting}
 use Rattle.station.specs.declared.record.Remembered.the-variants as remembered
 use Rattle.station.specs.declared.record.Station.{Station}
+use Rattle.backoff.specs.Backoffs.{firstExponent, nextExponent}
+use Rattle.backoff.specs.Steps.{lost, acknowledged, deferred}
 use Rattle.hearing.specs.declared.answer.Sent.{Sent}
 use Rattle.hearing.specs.declared.answer.Sent.the-variants.{Nothing, At}
 use Rattle.hearing.specs.declared.answer.Answer.{Answer}
 use Rattle.hearing.specs.declared.answer.Answer.the-variants.{Heard, Refused}
 use Rattle.hearing.specs.declared.answer.Hearing.{Hearing}
-use Rattle.hearing.specs.Backoffs.{firstExponent, nextExponent}
 use Rattle.hearing.specs.Opportunities.{spaced, contentionIn, ownIn, contention, own}
-use Rattle.hearing.specs.Steps.{granted, lost, acknowledged, deferred, passing, offeredOwn, sending, waitingSince, sentBy}
+use Rattle.hearing.specs.Steps.{granted, passing, offeredOwn, sending, waitingSince, sentBy}
 use Rattle.hearing.specs.Hearing.{stale, hearFault, readyPhase, quietPhase, phaseAfter, requestIn, stationAfter, hearing}
 
 -- a phase, and an answer, as numbers

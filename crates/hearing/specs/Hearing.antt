@@ -18,12 +18,13 @@ use Rattle.station.specs.declared.record.Remembered.{Remembered}
 use Rattle.station.specs.declared.record.Remembered.the-variants.{Nothing, End}
 use Rattle.station.specs.declared.record.Station.{Station}
 use Rattle.station.specs.Records.{recordFault}
+use Rattle.backoff.specs.Steps.{acknowledged, deferred}
 use Rattle.hearing.specs.declared.answer.Sent.{Sent}
 use Rattle.hearing.specs.declared.answer.Sent.the-variants as sent
 use Rattle.hearing.specs.declared.answer.Answer.the-variants as answer
 use Rattle.hearing.specs.declared.answer.Hearing.{Hearing}
 use Rattle.hearing.specs.Opportunities.{contention, own}
-use Rattle.hearing.specs.Steps.{granted, acknowledged, deferred, sending, sentBy}
+use Rattle.hearing.specs.Steps.{granted, sending, sentBy}
 
 -- how many bits of a time a station compares
 abbrev pub width : Station → ℕ

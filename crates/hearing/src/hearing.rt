@@ -11,11 +11,10 @@ use crate::answer::Hearing;
 use crate::answer::Sent;
 use crate::opportunity::find;
 use crate::opportunity::waiting_with_pending;
-use crate::steps::after_ack;
 use crate::steps::after_deferring;
 use crate::steps::after_grant;
-use crate::steps::after_wanting;
 use crate::steps::sent_by;
+use backoff::ready_phase;
 use message::Fields;
 use message::Reading;
 use message::Refusal;
@@ -157,7 +156,7 @@ fn take(st: Station, bytes: &[u8], reading: Reading, draw: u16) -> Taken
             request: Sent::Nothing,
         };
     }
-    let ready = after_wanting(fields, draw, after_ack(waits, fields, draw, phase));
+    let ready = ready_phase(waits, fields, draw, phase);
     let after = after_deferring(st, bytes, reading, own, ready);
     Taken {
         bursts: 0,

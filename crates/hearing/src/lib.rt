@@ -1,6 +1,5 @@
 // A station that hears a MAP: when it may speak.
 pub mod answer;
-pub mod backoff;
 pub mod hearing;
 pub mod opportunity;
 pub mod steps;

@@ -1,17 +1,13 @@
-// The steps of an accepted MAP on a station's phase.
+// The first and the last step of an accepted MAP on a station's phase.
 ghost use mathlib.Core.Path.{_≡_};
-ghost use Prim.Native.Nat.{_≤_};
 ghost use Rattle.message.specs.Reading.{readOf, mapOf};
 ghost use Rattle.message.specs.declared.reading.Verdict.the-variants.{Accepted};
 ghost use Rattle.hearing.specs.Opportunities.{contention, own};
 ghost use Rattle.hearing.specs.Scan.{firstOf};
-ghost use Rattle.hearing.specs.Steps.{granted, lost, acknowledged, deferred, sending, waitingSince, sentBy};
+ghost use Rattle.hearing.specs.Steps.{granted, sending, waitingSince, sentBy};
 use crate::answer::Sent;
-use crate::backoff::drawn;
-use crate::backoff::next_exponent;
 use crate::opportunity::pass;
 use crate::opportunity::sent_at;
-use message::Fields;
 use message::Reading;
 use station::Phase;
 use station::Station;
@@ -33,67 +29,6 @@ pub(crate) fn after_grant(pending: bool, phase: Phase) -> Phase
             Phase::Idle
         }
         _ => Phase::Idle,
-    }
-}
-
-// A request was lost: back off further, unless that was the last retry.
-fn after_loss(fields: Fields, draw: u16, exponent: u32, retries: u32, size: u32) -> Phase
-    requires { ⌜ fields .«data» .end ≤ 15 ⌝ }
-    ensures { λ r. ⌜ r ≡ lost fields draw exponent retries size ⌝ }
-{
-    if Station::MOST_RETRIES <= retries {
-        return Phase::Idle;
-    }
-    let next = next_exponent(fields, exponent);
-    Phase::Deferring {
-        exponent: next,
-        left: drawn(draw, next),
-        retries: retries + 1,
-        size,
-    }
-}
-
-// 2. Waiting, without a grant.
-pub(crate) fn after_ack(pending: bool, fields: Fields, draw: u16, phase: Phase) -> Phase
-    requires { ⌜ fields .«data» .end ≤ 15 ⌝ }
-    ensures { λ r. ⌜ r ≡ acknowledged 32 pending fields draw phase ⌝ }
-{
-    match phase {
-        Phase::Waiting {
-            exponent,
-            retries,
-            time,
-            size,
-        } => {
-            if pending {
-                return phase;
-            }
-            if time.earlier(fields.ack) {
-                return after_loss(fields, draw, exponent, retries, size);
-            }
-            phase
-        }
-        _ => phase,
-    }
-}
-
-// 3. Wanting becomes Deferring.
-pub(crate) fn after_wanting(fields: Fields, draw: u16, phase: Phase) -> Phase
-    requires { ⌜ fields .«data» .start ≤ 15 ⌝ }
-    ensures { λ r. ⌜ r ≡ deferred fields draw phase ⌝ }
-{
-    match phase {
-        Phase::Wanting { size } => {
-            let data = fields.data;
-            let exponent = data.start as u32;
-            Phase::Deferring {
-                exponent,
-                left: drawn(draw, exponent),
-                retries: 0,
-                size,
-            }
-        }
-        _ => phase,
     }
 }
 

@@ -25,6 +25,19 @@ use Rattle.station.specs.Offering.{fresh, setUpOf, idle, offerFault, wan
 abbrev pub tag : Phase → ℕ
 tag p = Declared.tagOf phase.the-type p
 
+module _ (P : Phase → Type 0) where
+  pub not-waiting : P Idle → ((size : ℕ) → P (Wanting size)) → ((exponent left retries size : ℕ) → P (Deferring exponent left retries size)) → (p : Phase) → OneOf (0 ∷ 1 ∷ 2 ∷ []) (tag p) → P p
+  not-waiting a b c Idle h = a
+  not-waiting a b c (Wanting size) h = b size
+  not-waiting a b c (Deferring exponent left retries size) h = c exponent left retries size
+  not-waiting a b c (Waiting exponent retries time size) h = absurd (elim h [ inl e ↦ omega arith | inr h ↦ elim h [ inl e ↦ omega arith | inr e ↦ omega arith ] ])
+
+  pub not-deferring : P Idle → ((size : ℕ) → P (Wanting size)) → ((exponent retries : ℕ) (time : MiniSlot) (size : ℕ) → P (Waiting exponent retries time size)) → (p : Phase) → OneOf (0 ∷ 1 ∷ 3 ∷ []) (tag p) → P p
+  not-deferring a b c Idle h = a
+  not-deferring a b c (Wanting size) h = b size
+  not-deferring a b c (Deferring exponent left retries size) h = absurd (elim h [ inl e ↦ omega arith | inr h ↦ elim h [ inl e ↦ omega arith | inr e ↦ omega arith ] ])
+  not-deferring a b c (Waiting exponent retries time size) h = c exponent retries time size
+
 module _ (p : Phase) where
   pub bad-idle : p ≡ Idle → false ≡ badPhase p
   unfolding badPhase

@@ -1,4 +1,4 @@
-use Rattle.hearing.proofs.Ways.{starts-small, ends-small, found-own, taken-granted, taken-quiet}
+use Rattle.hearing.proofs.Ways.{found-own, taken-granted, taken-quiet}
 use borrow.Author.Needs.{needs}
 use Rattle.hearing.proofs.hearing.take.Statement.{statement}
 use Rattle.hearing.proofs.hearing.take.Tie as tie
@@ -15,11 +15,8 @@ after-grant-requires c κs = search needs
 returns : tie.Need-returns
 returns c = search taken-granted
 
-after-ack-requires : tie.Need-after-ack-requires
-after-ack-requires c κs = search ends-small
-
-after-wanting-requires : tie.Need-after-wanting-requires
-after-wanting-requires c κs = search starts-small
+ready-phase-requires : tie.Need-ready-phase-requires
+ready-phase-requires c κs = search needs
 
 after-deferring-requires : tie.Need-after-deferring-requires
 after-deferring-requires c κs = (search needs, search found-own)
@@ -38,8 +35,7 @@ take-spec =
     waiting-with-pending-requires
     after-grant-requires
     returns
-    after-ack-requires
-    after-wanting-requires
+    ready-phase-requires
     after-deferring-requires
     sent-by-requires
     returns-2)

@@ -1,6 +1,6 @@
 use borrow.Author.Needs.{needs}
-use Rattle.hearing.proofs.backoff.next_exponent.Statement.{statement}
-use Rattle.hearing.proofs.backoff.next_exponent.Tie as tie
+use Rattle.backoff.proofs.backoff.next_exponent.Statement.{statement}
+use Rattle.backoff.proofs.backoff.next_exponent.Tie as tie
 
 cast-end : tie.Need-cast-end
 cast-end c = search needs

@@ -1,8 +1,8 @@
 // The backoff window: which exponent, and how many opportunities to pass.
 ghost use mathlib.Core.Path.{_≡_};
-ghost use Prim.Native.Nat.{_≤_};
-ghost use Rattle.hearing.specs.Backoffs.{nextExponent, drawn};
+ghost use Rattle.backoff.specs.Backoffs.{nextExponent, drawn};
 use message::Fields;
+use station::Station;
 
 // After a loss.
 pub(crate) fn next_exponent(fields: Fields, exponent: u32) -> u32
@@ -16,9 +16,12 @@ pub(crate) fn next_exponent(fields: Fields, exponent: u32) -> u32
     end
 }
 
+// A draw has 16 bits: by 2^16 and more it is its own remainder, and the shift stays within 32 bits.
 pub(crate) fn drawn(draw: u16, exponent: u32) -> u32
-    requires { ⌜ exponent ≤ 15 ⌝ }
     ensures { λ r. ⌜ r ≡ drawn draw exponent ⌝ }
 {
+    if Station::LARGEST_EXPONENT < exponent {
+        return draw as u32;
+    }
     (draw as u32) % (1u32 << exponent)
 }

@@ -1,7 +1,7 @@
-use Rattle.hearing.proofs.Ways.{step-ways}
+use Rattle.backoff.proofs.Ways.{step-ways}
 use borrow.Author.Needs.{needs}
-use Rattle.hearing.proofs.steps.after_loss.Statement.{statement}
-use Rattle.hearing.proofs.steps.after_loss.Tie as tie
+use Rattle.backoff.proofs.steps.after_loss.Statement.{statement}
+use Rattle.backoff.proofs.steps.after_loss.Tie as tie
 
 returns : tie.Need-returns
 returns c = search step-ways

@@ -1,7 +1,7 @@
-use Rattle.hearing.proofs.Ways.{step-ways}
+use Rattle.backoff.proofs.Ways.{step-ways}
 use borrow.Author.Needs.{needs}
-use Rattle.hearing.proofs.steps.after_ack.Statement.{statement}
-use Rattle.hearing.proofs.steps.after_ack.Tie as tie
+use Rattle.backoff.proofs.steps.after_ack.Statement.{statement}
+use Rattle.backoff.proofs.steps.after_ack.Tie as tie
 
 enum-known-phase : tie.Need-enum-known-phase
 enum-known-phase c = search needs

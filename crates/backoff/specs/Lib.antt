@@ -1,0 +1,2 @@
+pub mod Backoffs
+pub mod Steps
