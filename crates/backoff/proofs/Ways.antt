@@ -11,8 +11,8 @@ use native.Mathlib.Omega.{arith}
 use borrow.Author.Tests.{lt-ltb, le-ltb, not-true}
 use Rattle.slots.specs.declared.time.MiniSlot.{MiniSlot}
 use Rattle.slots.specs.Time.{earlier}
-use Rattle.message.specs.declared.fields.Fields.{Fields}
-use Rattle.message.proofs.Ways.{said, said-not}
+use Rattle.rules.specs.declared.fields.Fields.{Fields}
+use Rattle.rules.proofs.Ways.{said, said-not}
 use Rattle.station.specs.declared.record.Phase.{Phase}
 use Rattle.station.specs.declared.record.Phase.the-variants.{Idle, Wanting, Deferring, Waiting}
 use Rattle.station.proofs.Ways.{tag, not-waiting}

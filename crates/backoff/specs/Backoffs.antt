@@ -1,6 +1,6 @@
 -- Document 01, "The station": the backoff.
 use Prim.Native.Nat.{ℕ, _+_, _%_, _^_, min}
-use Rattle.message.specs.declared.fields.Fields.{Fields}
+use Rattle.rules.specs.declared.fields.Fields.{Fields}
 
 -- "exponent data backoff start"
 abbrev pub firstExponent : Fields → ℕ

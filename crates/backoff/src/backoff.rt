@@ -1,7 +1,7 @@
 // The backoff window: which exponent, and how many opportunities to pass.
 ghost use mathlib.Core.Path.{_≡_};
 ghost use Rattle.backoff.specs.Backoffs.{nextExponent, drawn};
-use message::Fields;
+use rules::Fields;
 use station::Station;
 
 // After a loss.

@@ -3,7 +3,7 @@ ghost use mathlib.Core.Path.{_≡_};
 ghost use Rattle.backoff.specs.Steps.{lost, acknowledged, deferred};
 use crate::backoff::drawn;
 use crate::backoff::next_exponent;
-use message::Fields;
+use rules::Fields;
 use station::Phase;
 use station::Station;
 

@@ -7,7 +7,7 @@ use native.Mathlib.Omega.{arith}
 use borrow.Author.Tests.{ltb-false}
 use Rattle.slots.specs.Time.{ahead, movedOn}
 use Rattle.message.specs.Lists.{isEmpty, gather}
-use Rattle.message.specs.Rules.{granting}
+use Rattle.rules.specs.Rules.{granting}
 use Rattle.message.specs.Map.{Map, Interval, intervals, mapLength, grantsTo, pendingsTo}
 use Rattle.headend.specs.declared.record.Headend.{Headend}
 use Rattle.headend.specs.Requests.{Request, heldOf}

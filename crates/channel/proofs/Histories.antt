@@ -9,10 +9,11 @@ use borrow.Author.Tests.{ltb-true}
 use lib.ListN.{take}
 use Rattle.slots.specs.Time.{ahead, half, earlier}
 use Rattle.message.specs.Lists.{listed}
-use Rattle.message.specs.Sids.{sidAllowed}
+use Rattle.rules.specs.Sids.{sidAllowed}
 use Rattle.message.specs.Element.{wordAt}
-use Rattle.message.specs.Fields.{fieldsOf, badBackoffs}
-use Rattle.message.specs.Rules.{misordered, misplaced, faultOf, advanced, endedAt, walked}
+use Rattle.rules.specs.Backoffs.{badBackoffs}
+use Rattle.message.specs.Fields.{fieldsOf}
+use Rattle.rules.specs.Rules.{misordered, misplaced, faultOf, advanced, endedAt, walked}
 use Rattle.message.specs.Map.{intervals, mapLength, afterNull, grantsTo, pendingsTo, endOf}
 use Rattle.message.specs.Reading.{headerFault, readOf}
 use Rattle.writer.specs.Writing.{bytesOf, headerOf, elementsOf, messageOf}

@@ -10,7 +10,7 @@ use borrow.Author.Tests.{ne-eqb}
 use Rattle.slots.specs.declared.time.MiniSlot.{MiniSlot}
 use Rattle.slots.specs.Time.{earlier, movedOn}
 use Rattle.message.specs.Lists.{isEmpty}
-use Rattle.message.specs.Rules.{granting}
+use Rattle.rules.specs.Rules.{granting}
 use Rattle.message.specs.Map.{Map, Interval, timeAt}
 use Rattle.station.specs.declared.record.Phase.the-variants.{Idle, Waiting}
 use Rattle.station.specs.declared.record.Station.{Station}

@@ -8,7 +8,7 @@ use native.Mathlib.Omega.{arith}
 use lib.Dec.{eqb}
 use borrow.Author.Tests.{eqb-true}
 use Rattle.slots.specs.Time.{movedOn}
-use Rattle.message.specs.Rules.{granting}
+use Rattle.rules.specs.Rules.{granting}
 use Rattle.message.specs.Map.{Map, Interval, intervals, grantsTo, timeAt}
 use Rattle.station.specs.declared.record.Station.{Station}
 use Rattle.hearing.specs.declared.answer.Sent.{Sent}

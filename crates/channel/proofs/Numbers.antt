@@ -5,10 +5,11 @@ use Rattle.slots.specs.Time.{ahead, earlier}
 use Rattle.slots.specs.Begins.{beginsAt}
 use Rattle.slots.specs.Span.{within, qualifies, further, furthest, spanFrom, spanOf}
 use Rattle.message.specs.Lists.{listed}
-use Rattle.message.specs.Sids.{sidAllowed}
+use Rattle.rules.specs.Sids.{sidAllowed}
 use Rattle.message.specs.Element.{wordAt}
-use Rattle.message.specs.Fields.{fieldsOf, badBackoffs}
-use Rattle.message.specs.Rules.{misordered, misplaced, faultOf, advanced, endedAt, walked}
+use Rattle.rules.specs.Backoffs.{badBackoffs}
+use Rattle.message.specs.Fields.{fieldsOf}
+use Rattle.rules.specs.Rules.{misordered, misplaced, faultOf, advanced, endedAt, walked}
 use Rattle.message.specs.Map.{intervals, mapLength, afterNull, grantsTo, pendingsTo}
 use Rattle.message.specs.Reading.{headerFault, readOf}
 use Rattle.writer.specs.Writing.{bytesOf, headerOf, elementsOf, messageOf}

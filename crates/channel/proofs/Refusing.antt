@@ -7,11 +7,11 @@ use Prim.Native.Nat.{ℕ, _≤_, _<_}
 use native.Mathlib.Omega.{arith}
 use lib.Dec.{eqb}
 use borrow.Author.Tests.{eqb-true, not-false}
-use Rattle.message.specs.declared.fields.Fields.{Fields}
-use Rattle.message.specs.declared.refusal.Refusal.{Refusal}
+use Rattle.rules.specs.declared.fields.Fields.{Fields}
+use Rattle.rules.specs.declared.refusal.Refusal.{Refusal}
 use Rattle.message.specs.declared.reading.Verdict.{Verdict}
 use Rattle.message.specs.declared.reading.Verdict.the-variants as verdict
-use Rattle.message.specs.Refusals.{refusal}
+use Rattle.rules.specs.Refusals.{refusal}
 use Rattle.message.specs.Map.{Map}
 use Rattle.message.specs.Reading.{readOf, mapOf}
 use Rattle.message.proofs.Ways.{passed}

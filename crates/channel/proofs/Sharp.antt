@@ -6,16 +6,16 @@ use Prim.Native.Nat.{ℕ, zero, suc, _<_}
 use lib.ListN.{length, getD, set}
 use lib.Dec.{lit<}
 use Rattle.message.specs.Map.{intervals, mapLength, afterNull, grantsTo, pendingsTo}
-use Rattle.message.specs.Reading.{mapOf}
+use Rattle.message.specs.Reading.{mapOf, headerFault, readOf}
 use Rattle.station.specs.declared.record.Station.{Station}
 use native.Mathlib.Omega.{arith}
 use Rattle.slots.specs.Time.{ahead, earlier}
 use Rattle.message.specs.Lists.{listed}
-use Rattle.message.specs.Sids.{sidAllowed}
+use Rattle.rules.specs.Sids.{sidAllowed}
 use Rattle.message.specs.Element.{wordAt}
-use Rattle.message.specs.Fields.{fieldsOf, badBackoffs}
-use Rattle.message.specs.Rules.{misordered, misplaced, faultOf, advanced, endedAt, walked}
-use Rattle.message.specs.Reading.{headerFault, readOf}
+use Rattle.rules.specs.Backoffs.{badBackoffs}
+use Rattle.message.specs.Fields.{fieldsOf}
+use Rattle.rules.specs.Rules.{misordered, misplaced, faultOf, advanced, endedAt, walked}
 use Rattle.writer.specs.Writing as writing
 use Rattle.station.specs.declared.record.Phase.{Phase}
 use Rattle.station.specs.declared.record.Phase.the-variants.{Idle, Wanting, Deferring, Waiting}

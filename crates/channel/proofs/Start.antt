@@ -7,9 +7,9 @@ use native.Mathlib.Omega.{arith}
 use lib.Dec.{leb}
 use borrow.Author.Tests.{ne-eqb, leb-true, not-false}
 use Rattle.message.specs.Lists.{listed}
-use Rattle.message.specs.Sids.{unicast}
-use Rattle.message.specs.Fields.{badBackoff}
-use Rattle.message.specs.Refusals.{refusal}
+use Rattle.rules.specs.Sids.{unicast}
+use Rattle.rules.specs.Backoffs.{badBackoff}
+use Rattle.rules.specs.Refusals.{refusal}
 use Rattle.station.specs.declared.record.Remembered.the-variants.{Nothing}
 use Rattle.station.specs.declared.record.Station.{Station}
 use Rattle.station.specs.declared.record.SetUp.the-variants as setUp

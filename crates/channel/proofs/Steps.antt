@@ -14,7 +14,7 @@ use borrow.Author.Tests.{eqb-true, ne-eqb, leb-true, le-leb, ltb-true, lt-ltb}
 use Rattle.slots.specs.Time.{earlier, movedOn}
 use Rattle.slots.proofs.Rolling.{order}
 use Rattle.message.specs.Lists.{keep}
-use Rattle.message.specs.Sids.{unicast}
+use Rattle.rules.specs.Sids.{unicast}
 use Rattle.message.proofs.Accepted.{keep-append}
 use Rattle.station.specs.declared.record.Phase.the-variants.{Idle}
 use Rattle.station.specs.declared.record.Station.{Station}

@@ -6,9 +6,9 @@ use Prim.Native.Nat.{ℕ, _+_, _%_, _^_, _<_}
 use lib.ListN.{length}
 use Rattle.slots.specs.declared.time.MiniSlot.{MiniSlot}
 use Rattle.slots.specs.Time.{ahead, half, earlier}
-use Rattle.message.specs.declared.fields.Backoff.{Backoff}
+use Rattle.rules.specs.declared.fields.Backoff.{Backoff}
 use Rattle.message.specs.Map.{Interval, intervals, timeAt, endOf}
-use Rattle.message.specs.Rules.{granting}
+use Rattle.rules.specs.Rules.{granting}
 use Rattle.station.specs.declared.record.Phase.the-variants.{Waiting}
 use Rattle.station.specs.declared.record.Station.{Station}
 use Rattle.station.specs.declared.record.SetUp.the-variants as setUp

@@ -10,8 +10,8 @@ use Rattle.slots.specs.declared.span.Span.the-variants as span
 use Rattle.slots.specs.Time.{earlier}
 use Rattle.slots.specs.Begins.{beginsAt}
 use Rattle.slots.specs.Span.{Described, spanOf}
-use Rattle.message.specs.declared.element.Element.{Element}
-use Rattle.message.specs.declared.fields.Fields.{Fields}
+use Rattle.rules.specs.declared.element.Element.{Element}
+use Rattle.rules.specs.declared.fields.Fields.{Fields}
 use Rattle.message.specs.declared.reading.Verdict.{Verdict}
 use Rattle.message.specs.declared.reading.Verdict.the-variants as verdict
 use Rattle.message.specs.Element.{elementOf}

@@ -7,12 +7,12 @@ use native.Mathlib.Omega.{arith}
 use lib.Dec.{ltb, eqb}
 use lib.ListN.{length}
 use borrow.Author.Tests.{eqb-true, eqb-false}
-use Rattle.message.specs.Refusals.{refusal}
-use Rattle.message.specs.declared.refusal.Refusal.{Refusal}
-use Rattle.message.specs.declared.element.Element.{Element}
-use Rattle.message.specs.declared.rules.Progress.{Progress}
-use Rattle.message.specs.declared.rules.Walked.{Walked}
-use Rattle.message.specs.declared.rules.Walked.the-variants as walk
+use Rattle.rules.specs.Refusals.{refusal}
+use Rattle.rules.specs.declared.refusal.Refusal.{Refusal}
+use Rattle.rules.specs.declared.element.Element.{Element}
+use Rattle.rules.specs.declared.rules.Progress.{Progress}
+use Rattle.rules.specs.declared.rules.Walked.{Walked}
+use Rattle.rules.specs.declared.rules.Walked.the-variants as walk
 use Rattle.message.specs.declared.reading.Verdict.{Verdict}
 use Rattle.message.specs.declared.reading.Verdict.the-variants as verdict
 use Rattle.message.specs.declared.grants.Granted.{Granted}
@@ -20,9 +20,10 @@ use Rattle.message.specs.declared.grants.Granted.the-variants as granted
 use Rattle.message.specs.declared.grants.Found.{Found}
 use Rattle.message.specs.declared.grants.Found.the-variants as found
 use Rattle.slots.specs.Time.{earlier}
-use Rattle.message.specs.Sids.{unicast}
-use Rattle.message.specs.Fields.{fieldsOf, countOf, badBackoffs}
-use Rattle.message.specs.Rules.{unknownUse, misordered, wrongSid, misplaced, tooFar, grantTooLong, faultOf, nothingYet, advanced, endedAt, walked}
+use Rattle.rules.specs.Sids.{unicast}
+use Rattle.rules.specs.Backoffs.{badBackoffs}
+use Rattle.message.specs.Fields.{fieldsOf, countOf}
+use Rattle.rules.specs.Rules.{unknownUse, misordered, wrongSid, misplaced, tooFar, grantTooLong, faultOf, nothingYet, advanced, endedAt, walked}
 use Rattle.message.specs.Map.{Map}
 use Rattle.message.specs.Reading.{headerFault, mapOf, verdictOf, readOf}
 use Rattle.message.specs.Grants.{kthGrant, grantedAt, grantBy, grantOf}

@@ -1,7 +1,7 @@
 // A refusal in one number.
 ghost use mathlib.Core.Path.{_≡_};
 ghost use Rattle.firmware.specs.Codes.{codeOf};
-use message::Refusal;
+use rules::Refusal;
 
 // The number in the low byte, the element in the next.
 pub(crate) fn code_of(why: Refusal) -> u32

@@ -8,9 +8,9 @@ use lib.ListN.{set}
 use borrow.Author.Tests.{lt-ltb, le-ltb, le-leb, lt-leb, eq-eqb, ne-eqb, not-true, not-false, ltb-false, leb-false, eqb-true, eqb-false}
 use Rattle.slots.specs.declared.time.MiniSlot.{MiniSlot}
 use Rattle.slots.specs.Time.{earlier}
-use Rattle.message.specs.declared.fields.Backoff.{Backoff}
-use Rattle.message.specs.Fields.{badBackoff}
-use Rattle.message.specs.Sids.{unicast}
+use Rattle.rules.specs.declared.fields.Backoff.{Backoff}
+use Rattle.rules.specs.Backoffs.{badBackoff}
+use Rattle.rules.specs.Sids.{unicast}
 use Rattle.message.proofs.Ways.{said, said-not, passed}
 use Rattle.headend.specs.declared.record.Headend.{Headend}
 use Rattle.headend.specs.declared.record.SetUp.{SetUp}

@@ -6,11 +6,11 @@ use lib.Dec.{leb, ltb, eqb}
 use lib.ListN.{set, replicate}
 use Rattle.slots.specs.declared.time.MiniSlot.{MiniSlot}
 use Rattle.slots.specs.Time.{earlier}
-use Rattle.message.specs.declared.fields.Backoff.{Backoff}
-use Rattle.message.specs.Fields.{badBackoff}
-use Rattle.message.specs.Sids.{within, unicast}
-use Rattle.message.specs.Refusals as refusals
-use Rattle.message.specs.Refusals.{Sid, Size, Passed, Unannounced, Held, Full, numberOf, refusal}
+use Rattle.rules.specs.declared.fields.Backoff.{Backoff}
+use Rattle.rules.specs.Backoffs.{badBackoff}
+use Rattle.rules.specs.Sids.{within, unicast}
+use Rattle.rules.specs.Refusals as refusals
+use Rattle.rules.specs.Refusals.{Sid, Size, Passed, Unannounced, Held, Full, numberOf, refusal}
 use Rattle.headend.specs.declared.record.Headend.{Headend}
 use Rattle.headend.specs.declared.record.SetUp.{SetUp}
 use Rattle.headend.specs.declared.record.Taking.{Taking}

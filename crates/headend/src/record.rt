@@ -3,8 +3,8 @@
 // only copied. Places from `held` on are spare.
 ghost use mathlib.Core.Path.{_≡_};
 ghost use Rattle.headend.specs.Records.{withPlaces};
-use message::Backoff;
-use message::Refusal;
+use rules::Backoff;
+use rules::Refusal;
 use slots::MiniSlot;
 
 pub struct Headend {

@@ -13,7 +13,7 @@ use crate::record::with_places;
 use crate::setup::outside;
 use crate::setup::places;
 use crate::setup::record_fault;
-use message::Refusal;
+use rules::Refusal;
 use slots::MiniSlot;
 
 fn any_is(x: u32, numbers: &[u32; 64], n: u32) -> bool

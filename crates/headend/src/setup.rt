@@ -2,14 +2,14 @@
 ghost use mathlib.Core.Path.{_≡_};
 ghost use mathlib.Core.Bool.{not};
 ghost use Prim.Native.Nat.{_≤_, min};
-ghost use Rattle.message.specs.Sids.{within};
+ghost use Rattle.rules.specs.Sids.{within};
 ghost use Rattle.headend.specs.Requests.{firstOf};
 ghost use Rattle.headend.specs.Records.{fresh, none, setUpOf, anyOutside, recordFault};
 use crate::record::Headend;
 use crate::record::SetUp;
-use message::Backoff;
-use message::Refusal;
-use message::rules::within;
+use rules::Backoff;
+use rules::Refusal;
+use rules::within;
 use slots::MiniSlot;
 
 impl Headend {

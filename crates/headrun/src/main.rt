@@ -3,8 +3,8 @@
 use headend::Headend;
 use headend::Taken;
 use issuing::Issued;
-use message::Backoff;
-use message::Refusal;
+use rules::Backoff;
+use rules::Refusal;
 use slots::MiniSlot;
 
 fn number(n: u32) {

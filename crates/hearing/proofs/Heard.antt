@@ -8,7 +8,7 @@ use native.Mathlib.Omega.{arith}
 use lib.Dec.{ltb}
 use Rattle.slots.specs.declared.time.MiniSlot.{MiniSlot}
 use Rattle.slots.specs.Time.{earlier}
-use Rattle.message.specs.declared.fields.Fields.{Fields}
+use Rattle.rules.specs.declared.fields.Fields.{Fields}
 use Rattle.message.specs.Map.{Map, grantsTo, pendingsTo, mapLength}
 use Rattle.station.specs.declared.record.Phase.{Phase}
 use Rattle.station.specs.declared.record.Phase.the-variants.{Idle, Wanting, Deferring, Waiting}

@@ -8,7 +8,7 @@ use native.Mathlib.Nat.{zero-mul, suc-mul, div-zero, div-mul-le-self, mul-le-mul
 use native.Mathlib.Omega.{arith}
 use lib.Dec.{leb, ltb, eqb}
 use borrow.Author.Tests.{leb-true, ltb-false}
-use Rattle.message.specs.Sids.{within}
+use Rattle.rules.specs.Sids.{within}
 use Rattle.message.specs.Lists.{gather}
 use Rattle.message.specs.Map.{Map, Interval, intervals, timeAt}
 use Rattle.hearing.specs.Opportunities.{spaced, contentionIn, ownIn, contention, own}

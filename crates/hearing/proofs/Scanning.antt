@@ -10,13 +10,13 @@ use lib.ListN.{length, length-append}
 use borrow.Author.Tests.{lt-ltb, le-ltb, le-leb, lt-leb, eq-eqb, ne-eqb, not-true, eqb-true}
 use Rattle.slots.specs.declared.time.MiniSlot.{MiniSlot}
 use Rattle.slots.specs.Time.{movedOn}
-use Rattle.message.specs.declared.element.Element.{Element}
+use Rattle.rules.specs.declared.element.Element.{Element}
 use Rattle.message.specs.declared.reading.Reading.{Reading}
 use Rattle.message.specs.declared.reading.Verdict.the-variants.{Accepted}
 use Rattle.message.specs.Element.{elementAt}
-use Rattle.message.specs.Sids.{within}
+use Rattle.rules.specs.Sids.{within}
 use Rattle.message.specs.Lists.{listed, keep, isEmpty, gather}
-use Rattle.message.specs.Rules.{granting}
+use Rattle.rules.specs.Rules.{granting}
 use Rattle.message.specs.Map.{Interval, intervals, pendingsTo}
 use Rattle.message.specs.Reading.{readOf, mapOf}
 use Rattle.message.proofs.Ways.{said, said-not}

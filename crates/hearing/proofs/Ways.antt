@@ -14,8 +14,8 @@ use Rattle.slots.specs.Time.{earlier, ahead, movedOn}
 use Rattle.message.specs.declared.reading.Reading.{Reading}
 use Rattle.message.specs.declared.reading.Verdict.{Verdict}
 use Rattle.message.specs.declared.reading.Verdict.the-variants.{Accepted, Refused}
-use Rattle.message.specs.declared.fields.Fields.{Fields}
-use Rattle.message.specs.declared.refusal.Refusal.{Refusal}
+use Rattle.rules.specs.declared.fields.Fields.{Fields}
+use Rattle.rules.specs.declared.refusal.Refusal.{Refusal}
 use Rattle.message.specs.Lists.{isEmpty}
 use Rattle.message.specs.Map.{intervals, grantsTo}
 use Rattle.message.specs.Reading.{readOf, mapOf}

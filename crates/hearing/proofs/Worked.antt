@@ -1,19 +1,18 @@
 -- Numbers of the paper, and edges of its rules: one table, computed by the definitions that the promises cite.
 use mathlib.Core.Path.{_≡_, refl}
-use mathlib.Core.Bool.{Bool, true, false, _&&_}
+use mathlib.Core.Bool.{true}
 use mathlib.Core.List.{List, [], _∷_}
 use Prim.Native.Nat.{ℕ, _-_}
-use lib.Dec.{eqb}
 use Rattle.slots.specs.Time.{ahead, earlier}
-use Rattle.message.specs.declared.element.Element.{Element}
-use Rattle.message.specs.declared.fields.Fields.{Fields}
+use Rattle.rules.specs.declared.element.Element.{Element}
+use Rattle.rules.proofs.Worked.{element}
 use Rattle.message.specs.Map.{Map, intervals, afterNull, mapLength, grantsTo, pendingsTo}
 use Rattle.station.specs.declared.record.Phase.{Phase}
 use Rattle.station.specs.declared.record.Phase.the-variants.{Idle, Wanting, Deferring, Waiting}
 use Rattle.station.specs.declared.record.Remembered.the-variants as remembered
 use Rattle.station.specs.declared.record.Station.{Station}
-use Rattle.backoff.specs.Backoffs.{firstExponent, nextExponent}
 use Rattle.backoff.specs.Steps.{lost, acknowledged, deferred}
+use Rattle.backoff.proofs.Worked.{phase, fields, waiting, Case, case, all}
 use Rattle.hearing.specs.declared.answer.Sent.{Sent}
 use Rattle.hearing.specs.declared.answer.Sent.the-variants.{Nothing, At}
 use Rattle.hearing.specs.declared.answer.Answer.{Answer}
@@ -23,13 +22,7 @@ use Rattle.hearing.specs.Opportunities.{spaced, contentionIn, ownIn, con
 use Rattle.hearing.specs.Steps.{granted, passing, offeredOwn, sending, waitingSince, sentBy}
 use Rattle.hearing.specs.Hearing.{stale, hearFault, readyPhase, quietPhase, phaseAfter, requestIn, stationAfter, hearing}
 
--- a phase, and an answer, as numbers
-abbrev phase : Phase → List ℕ
-phase Idle = 0 ∷ []
-phase (Wanting size) = 1 ∷ size ∷ []
-phase (Deferring exponent left retries size) = 2 ∷ exponent ∷ left ∷ retries ∷ size ∷ []
-phase (Waiting exponent retries time size) = 3 ∷ exponent ∷ retries ∷ time .0 ∷ size ∷ []
-
+-- an answer as numbers
 abbrev request : Sent → List ℕ
 request Nothing = []
 request (At time) = time .0 ∷ []
@@ -37,12 +30,6 @@ request (At time) = time .0 ∷ []
 abbrev answer : Answer → List ℕ
 answer (Heard bursts sent) = bursts ∷ request sent
 answer (Refused why) = why .number ∷ why .element ∷ []
-
-abbrev element : ℕ → ℕ → ℕ → Element
-element sid iuc offset = record { sid = sid; iuc = iuc; offset = offset }
-
-abbrev fields : ℕ → ℕ → Fields
-fields start ack = record { channel = 1; count = 2; start = record { 0 = start }; ack = record { 0 = ack }; ranging = record { start = 0; end = 4 }; «data» = record { start = 2; end = 4 } }
 
 abbrev mapAt : ℕ → ℕ → List Element → Map
 mapAt start ack es = record { fields = fields start ack; elements = es }
@@ -55,9 +42,6 @@ broadcast start length = mapAt start 0 (element 0x3FFF 1 0 ∷ element 0 7 lengt
 abbrev station : ℕ → Phase → Station
 station r p = record { sid = 5; channel = 1; count = 2; r = r; end = remembered.Nothing; phase = p }
 
-abbrev waiting : ℕ → ℕ → Phase
-waiting retries time = Waiting 2 retries (record { 0 = time }) 20
-
 -- what station 5 is after a MAP, and what it answers; draw 7, one mini-slot before the start
 abbrev hears : Station → Map → Hearing
 hears st m = hearing st m (m .fields .start .0 - 1) 7
@@ -67,23 +51,6 @@ after st m = phase (hears st m .station .phase)
 
 abbrev says : Station → Map → List ℕ
 says st m = answer (hears st m .answer)
-
-abbrev same : List ℕ → List ℕ → Bool
-same [] [] = true
-same [] (y ∷ ys) = false
-same (x ∷ xs) [] = false
-same (x ∷ xs) (y ∷ ys) = eqb x y && same xs ys
-
-pub record Case : Type 0 where
-  pub computed : List ℕ
-  pub paper : List ℕ
-
-abbrev case : List ℕ → List ℕ → Case
-case computed paper = record { computed = computed; paper = paper }
-
-abbrev all : List Case → Bool
-all [] = true
-all (c ∷ cs) = same (c .computed) (c .paper) && all cs
 
 pub table : List Case
 table =
@@ -97,8 +64,6 @@ table =
     ∷ case (contentionIn 1 (record { sid = 0x3FF2; iuc = 2; first = 0; length = 7 })) (0 ∷ 2 ∷ 4 ∷ [])
     -- broadcast, r 4, length 3: none
     ∷ case (contentionIn 4 (record { sid = 0x3FFF; iuc = 1; first = 0; length = 3 })) []
-    -- exponents from start 2, end 4: 2, 3, 4, 4
-    ∷ case (firstExponent (fields 0 0) ∷ nextExponent (fields 0 0) 2 ∷ nextExponent (fields 0 0) 3 ∷ nextExponent (fields 0 0) 4 ∷ []) (2 ∷ 3 ∷ 4 ∷ 4 ∷ [])
     -- request time 500: Ack 500 still waiting, Ack 501 lost
     ∷ case (after (station 4 (waiting 0 500)) (mapAt 1000 500 (element 0x3FFF 1 0 ∷ element 0 7 3 ∷ []))) (3 ∷ 2 ∷ 0 ∷ 500 ∷ 20 ∷ [])
     ∷ case (after (station 4 (waiting 0 500)) (mapAt 1000 501 (element 0x3FFF 1 0 ∷ element 0 7 3 ∷ []))) (2 ∷ 3 ∷ 7 ∷ 1 ∷ 20 ∷ [])

@@ -5,9 +5,9 @@ use mathlib.Core.List.{List}
 use lib.Dec.{ltb, eqb}
 use lib.ListN.{length}
 use Rattle.slots.specs.Time.{ahead, half, earlier}
-use Rattle.message.specs.Refusals.{Channel, Description, Stale, Late, numberOf, refusal}
-use Rattle.message.specs.declared.refusal.Refusal.{Refusal}
-use Rattle.message.specs.declared.fields.Fields.{Fields}
+use Rattle.rules.specs.Refusals.{Channel, Description, Stale, Late, numberOf, refusal}
+use Rattle.rules.specs.declared.refusal.Refusal.{Refusal}
+use Rattle.rules.specs.declared.fields.Fields.{Fields}
 use Rattle.message.specs.declared.reading.Verdict.{Verdict}
 use Rattle.message.specs.declared.reading.Verdict.the-variants.{Accepted, Refused}
 use Rattle.message.specs.Lists.{isEmpty}

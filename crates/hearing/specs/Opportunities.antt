@@ -3,7 +3,7 @@ use Prim.Native.Nat.{ℕ, zero, suc, _+_, _-_, _/_}
 use mathlib.Core.Bool.{cond, _&&_}
 use mathlib.Core.List.{List, [], _∷_, map}
 use lib.Dec.{leb, ltb, eqb}
-use Rattle.message.specs.Sids.{within}
+use Rattle.rules.specs.Sids.{within}
 use Rattle.message.specs.Lists.{gather}
 use Rattle.message.specs.Map.{Map, Interval, intervals, timeAt}
 

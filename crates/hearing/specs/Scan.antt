@@ -6,9 +6,9 @@ use mathlib.Core.List.{List, [], _∷_, map}
 use lib.Dec.{ltb, eqb}
 use lib.ListN.{length}
 use Rattle.slots.specs.Time.{movedOn}
-use Rattle.message.specs.Sids.{within}
+use Rattle.rules.specs.Sids.{within}
 use Rattle.message.specs.Lists.{keep, gather}
-use Rattle.message.specs.Rules.{granting}
+use Rattle.rules.specs.Rules.{granting}
 use Rattle.message.specs.Map.{Map, Interval}
 use Rattle.station.specs.declared.record.Phase.{Phase}
 use Rattle.station.specs.declared.record.Phase.the-variants.{Idle, Wanting, Deferring, Waiting}

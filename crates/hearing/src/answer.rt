@@ -1,5 +1,5 @@
 // What a station answers to a MAP.
-use message::Refusal;
+use rules::Refusal;
 use slots::MiniSlot;
 use station::Station;
 

@@ -13,9 +13,10 @@ ghost use Rattle.hearing.specs.Opportunities.{contention};
 ghost use Rattle.hearing.specs.Scan.{firstOf, grants, foundIn, waitingWith, apart};
 ghost use Rattle.hearing.specs.Steps.{passing};
 use crate::answer::Sent;
-use message::Element;
 use message::Reading;
-use message::rules::granting;
+use message::element_at;
+use rules::Element;
+use rules::granting;
 use slots::MiniSlot;
 use station::Phase;
 
@@ -78,9 +79,9 @@ pub(crate) fn find(bytes: &[u8], reading: Reading, sid: u32, r: u32) -> Found
         if reading.null <= i {
             break found;
         }
-        let e = Element::at(bytes, i as usize);
+        let e = element_at(bytes, i as usize);
         if e.sid == sid {
-            let next = Element::at(bytes, (i + 1) as usize);
+            let next = element_at(bytes, (i + 1) as usize);
             found = noted(found, e, next.offset - e.offset, start, sid, r);
         }
         i += 1;
@@ -104,7 +105,7 @@ fn pending(bytes: &[u8], reading: Reading, sid: u32) -> bool
         if reading.n <= i {
             break false;
         }
-        if granted_to(Element::at(bytes, i as usize), sid) {
+        if granted_to(element_at(bytes, i as usize), sid) {
             break true;
         }
         i += 1;
@@ -190,10 +191,10 @@ pub(crate) fn pass(
                 size,
             };
         }
-        let e = Element::at(bytes, i as usize);
+        let e = element_at(bytes, i as usize);
         let step = step_of(e, r);
         if step != 0 {
-            let next = Element::at(bytes, (i + 1) as usize);
+            let next = element_at(bytes, (i + 1) as usize);
             let count = (next.offset - e.offset) / step;
             if left < count {
                 break sent_at(

@@ -11,11 +11,11 @@ use lib.Seq.{set-at, take-at, take-length}
 use borrow.Author.Tests.{lt-ltb, le-ltb, eq-eqb, ne-eqb, ltb-false, eqb-false, le-leb}
 use Rattle.slots.specs.declared.time.MiniSlot.{MiniSlot}
 use Rattle.slots.specs.Time.{ahead, movedOn}
-use Rattle.message.specs.declared.fields.Fields.{Fields}
+use Rattle.rules.specs.declared.fields.Fields.{Fields}
 use Rattle.message.specs.declared.reading.Verdict.{Verdict}
 use Rattle.message.specs.declared.reading.Verdict.the-variants as verdict
 use Rattle.message.specs.declared.reading.Reading.{Reading}
-use Rattle.message.specs.declared.refusal.Refusal.{Refusal}
+use Rattle.rules.specs.declared.refusal.Refusal.{Refusal}
 use Rattle.message.specs.Lists.{listed}
 use Rattle.message.specs.Reading.{readOf}
 use Rattle.writer.specs.Writing.{messageOf, laidOut}

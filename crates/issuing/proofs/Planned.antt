@@ -7,9 +7,9 @@ use native.Mathlib.Omega.{arith}
 use native.Mathlib.Nat.{sub-zero}
 use lib.Dec.{leb, eqb}
 use lib.ListN.{length, length-append}
-use Rattle.message.specs.declared.element.Element.{Element}
+use Rattle.rules.specs.declared.element.Element.{Element}
 use Rattle.message.specs.Lists.{keep, isEmpty, gather}
-use Rattle.message.specs.Rules.{granting}
+use Rattle.rules.specs.Rules.{granting}
 use Rattle.message.specs.Map.{Interval, firstOffset, intervals, mapLength, afterNull, grantsTo, pendingsTo}
 use Rattle.headend.specs.Requests.{Request}
 use Rattle.issuing.specs.Plan.{total, useOf, grants, pendings, elementsOf}

@@ -8,16 +8,17 @@ use native.Mathlib.Nat.{add-zero}
 use lib.Dec.{leb, ltb, eqb}
 use lib.ListN.{length}
 use borrow.Author.Tests.{le-ltb, lt-leb, eq-eqb, not-false, leb-true, eqb-true}
-use Rattle.message.specs.declared.element.Element.{Element}
-use Rattle.message.specs.declared.rules.Progress.{Progress}
-use Rattle.message.specs.declared.rules.Walked.the-variants.{Whole}
+use Rattle.rules.specs.declared.element.Element.{Element}
+use Rattle.rules.specs.declared.rules.Progress.{Progress}
+use Rattle.rules.specs.declared.rules.Walked.the-variants.{Whole}
 use Rattle.message.specs.declared.reading.Verdict.the-variants.{Accepted}
-use Rattle.message.specs.Sids.{within, unicast, sidAllowed}
-use Rattle.message.specs.Fields.{badBackoffs}
-use Rattle.message.specs.Rules.{granting, misordered, misplaced, faultOf, nothingYet, advanced, endedAt, walked}
+use Rattle.rules.specs.Sids.{within, unicast, sidAllowed}
+use Rattle.rules.specs.Backoffs.{badBackoffs}
+use Rattle.rules.specs.Rules.{granting, misordered, misplaced, faultOf, nothingYet, advanced, endedAt, walked}
 use Rattle.message.specs.Map.{mapLength}
 use Rattle.message.specs.Reading.{mapOf, readOf}
-use Rattle.message.proofs.Ways.{no-fault, or-none}
+use Rattle.rules.proofs.Ways.{no-fault}
+use Rattle.message.proofs.Ways.{or-none}
 use Rattle.writer.proofs.Trips.{Fits, whole-narrow, map-back, fields-back, reads-back}
 use Rattle.headend.specs.declared.record.Headend.{Headend}
 use Rattle.headend.specs.Requests.{Request, heldOf}

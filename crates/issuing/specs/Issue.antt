@@ -5,10 +5,10 @@ use mathlib.Core.List.{List, _++_, map}
 use lib.Dec.{ltb, eqb}
 use lib.ListN.{length, replicate}
 use Rattle.slots.specs.Time.{ahead, movedOn}
-use Rattle.message.specs.declared.fields.Fields.{Fields}
+use Rattle.rules.specs.declared.fields.Fields.{Fields}
 use Rattle.message.specs.declared.reading.Verdict.{Verdict}
 use Rattle.message.specs.declared.reading.Verdict.the-variants as verdict
-use Rattle.message.specs.Refusals.{Room, Ack, Plan, Selfcheck, numberOf, refusal}
+use Rattle.rules.specs.Refusals.{Room, Ack, Plan, Selfcheck, numberOf, refusal}
 use Rattle.message.specs.Map.{Map, mapLength}
 use Rattle.message.specs.Reading.{readOf}
 use Rattle.writer.specs.Writing.{messageOf, onto}

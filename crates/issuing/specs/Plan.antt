@@ -3,7 +3,7 @@ use Prim.Native.Nat.{ℕ, _+_, _-_}
 use mathlib.Core.Bool.{cond}
 use mathlib.Core.List.{List, [], _∷_, _++_}
 use lib.Dec.{leb}
-use Rattle.message.specs.declared.element.Element.{Element}
+use Rattle.rules.specs.declared.element.Element.{Element}
 use Rattle.headend.specs.Requests.{Request}
 
 -- "grants of full size in held order, stopping at the first that would pass the budget": those granted, where room mini-slots are left

@@ -4,7 +4,7 @@ use mathlib.Core.Bool.{Bool, cond, _&&_}
 use mathlib.Core.List.{List}
 use lib.Dec.{leb, ltb, eqb}
 use lib.ListN.{getD}
-use Rattle.message.specs.declared.element.Element.{Element}
+use Rattle.rules.specs.declared.element.Element.{Element}
 use Rattle.message.specs.Lists.{listed}
 use Rattle.headend.specs.declared.record.Headend.{Headend}
 use Rattle.headend.specs.Requests.{Request, requestAt}

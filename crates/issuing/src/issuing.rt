@@ -13,9 +13,9 @@ use crate::plan::make;
 use headend::Headend;
 use headend::record_fault;
 use headend::with_places;
-use message::Refusal;
 use message::Verdict;
 use message::read;
+use rules::Refusal;
 use slots::MiniSlot;
 
 // The bytes of the MAP, or why there is none.

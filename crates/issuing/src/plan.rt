@@ -10,8 +10,8 @@ ghost use Rattle.issuing.specs.Plan.{granted, total, elementsOf};
 ghost use Rattle.issuing.specs.Issue.{planFields};
 ghost use Rattle.issuing.specs.Scan.{firstHeld, afterFirst, fitsAt, elementBy, lengthBy};
 use headend::Headend;
-use message::Element;
-use message::Fields;
+use rules::Element;
+use rules::Fields;
 use slots::MiniSlot;
 use writer::lay_out;
 

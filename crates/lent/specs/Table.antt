@@ -5,7 +5,7 @@ use mathlib.Core.Bool.{cond}
 use mathlib.Core.List.{List, [], _∷_}
 use lib.Dec.{ltb, eqb}
 use lib.ListN.{length}
-use Rattle.message.specs.Refusals.{Size, numberOf}
+use Rattle.rules.specs.Refusals.{Size, numberOf}
 use Rattle.station.specs.declared.record.Station.{Station}
 use Rattle.hearing.specs.declared.answer.Answer.{Answer}
 use Rattle.hearing.specs.declared.answer.Answer.the-variants.{Heard, Refused}

@@ -5,7 +5,7 @@ ghost use lib.ListN.{length, getD};
 ghost use Rattle.lent.specs.Table.{fitOf, numberIn, placedOf, HearsTable};
 use hearing::Answer;
 use hearing::hear;
-use message::Refusal;
+use rules::Refusal;
 use slots::MiniSlot;
 use station::Station;
 

@@ -1,6 +1,6 @@
 -- What an accepted message is: laws of the walk over its elements that comes out whole.
 use mathlib.Core.Path.{_≡_, refl, sym, _∙_, ap, subst}
-use mathlib.Core.Bool.{Bool, true, false, cond, not, _&&_, _||_}
+use mathlib.Core.Bool.{Bool, true, false, cond, not, _&&_}
 use mathlib.Core.Logic.{_⊎_, inl, inr}
 use mathlib.Core.List.{List, [], _∷_, _++_, append-assoc, List·Memᴰ, List·Memᴰ·not-nil, List·Memᴰ·cases-cons}
 use Prim.Native.Nat.{ℕ, zero, suc, _+_, _-_, _*_, _≤_, _<_}
@@ -9,25 +9,25 @@ use native.Mathlib.Omega.{arith}
 use lib.Dec.{leb, ltb, eqb}
 use lib.ListN.{length}
 use borrow.Author.Tests.{ltb-false, leb-true, leb-false, eqb-true, eqb-false, eq-eqb, ne-eqb}
-use Rattle.message.specs.declared.element.Element.{Element}
-use Rattle.message.specs.declared.fields.Fields.{Fields}
-use Rattle.message.specs.declared.rules.Progress.{Progress}
-use Rattle.message.specs.declared.rules.Walked.{Walked}
-use Rattle.message.specs.declared.rules.Walked.the-variants.{Whole, Fault}
+use Rattle.rules.specs.declared.element.Element.{Element}
+use Rattle.rules.specs.declared.rules.Progress.{Progress}
+use Rattle.rules.specs.declared.rules.Walked.{Walked}
+use Rattle.rules.specs.declared.rules.Walked.the-variants.{Whole, Fault}
 use Rattle.message.specs.declared.reading.Reading.{Reading}
 use Rattle.message.specs.declared.reading.Verdict.{Verdict}
 use Rattle.message.specs.declared.reading.Verdict.the-variants.{Accepted, Refused}
 use Rattle.message.specs.declared.reading.Checked.{Checked}
 use Rattle.message.specs.declared.reading.Checked.the-variants as checked
 use Rattle.message.specs.Element.{elementIn, elementAt}
-use Rattle.message.specs.Fields.{fieldsOf, countOf, badBackoff, badBackoffs}
-use Rattle.message.specs.Refusals.{refusal}
+use Rattle.message.specs.Fields.{fieldsOf, countOf}
+use Rattle.rules.specs.Refusals.{refusal}
 use Rattle.message.specs.Lists.{listed, keep, gather}
-use Rattle.message.specs.Rules.{granting, unknownUse, misordered, wrongSid, misplaced, tooFar, grantTooLong, faultOf, nothingYet, advanced, endedAt, walked}
+use Rattle.rules.specs.Rules.{granting, unknownUse, misordered, wrongSid, misplaced, tooFar, grantTooLong, faultOf, nothingYet, advanced, endedAt, walked}
 use Rattle.message.specs.Map.{Interval, firstOffset, intervals, mapLength, afterNull}
 use Rattle.message.specs.Reading.{headerFault, verdictOf, mapOf, readOf}
 use Rattle.message.specs.Scan.{checkedBy}
-use Rattle.message.proofs.Ways.{passed, advanced-after, Sound, header-sound, element-there}
+use Rattle.rules.proofs.Ways.{advanced-after}
+use Rattle.message.proofs.Ways.{passed, Sound, header-sound, element-there}
 
 -- what is kept of two lists, and gathered from them
 pub keep-append : {A : Type 0} (p : A → Bool) (xs ys : List A) → keep p (xs ++ ys) ≡ keep p xs ++ keep p ys
@@ -254,19 +254,6 @@ unfolding listed
 elements-at s zero i h = refl
 elements-at s (suc k) i h = rw (element-there s i (omega arith), elements-at s k (i + 1) (omega arith)) refl
 
--- of four tests that all fail, the second and the third
-middle-none : (r a b c : Bool) → (r || (a || b || c)) ≡ false → (a ≡ false) × (b ≡ false)
-middle-none true a b c h = let z : _≡_ {A = ℕ} 0 1 = cc in absurd (omega arith)
-middle-none false true b c h = let z : _≡_ {A = ℕ} 0 1 = cc in absurd (omega arith)
-middle-none false false true c h = let z : _≡_ {A = ℕ} 0 1 = cc in absurd (omega arith)
-middle-none false false false c h = (refl, refl)
-
-exponents : (f : Fields) → badBackoffs f ≡ false → (f .«data» .start ≤ 15) × (f .«data» .end ≤ 15)
-unfolding badBackoffs
-exponents f h =
-    let d = middle-none (badBackoff (f .ranging)) (ltb 15 (f .«data» .start)) (ltb 15 (f .«data» .end)) (ltb (f .«data» .end) (f .«data» .start)) h in
-    (ltb-false 15 (f .«data» .start) (d .0), ltb-false 15 (f .«data» .end) (d .1))
-
 -- all that is known of an accepted message
 pub record Accept (s : List ℕ) (reading : Reading) : Type 0 where
   pub sound : Sound s
@@ -275,8 +262,6 @@ pub record Accept (s : List ℕ) (reading : Reading) : Type 0 where
   pub walk : walked 0 nothingYet (mapOf s .elements) ≡ Whole (reading .null) (reading .length)
   pub elements : mapOf s .elements ≡ listed (elementAt s) 0 (reading .n)
   pub ends : mapLength (mapOf s .elements) ≡ reading .length
-  pub first-exponent : reading .fields .«data» .start ≤ 15
-  pub last-exponent : reading .fields .«data» .end ≤ 15
   pub inner : Inner nothingYet (mapOf s .elements) (reading .length)
   pub frame : Framed (elementAt s) 0 (reading .n) (reading .null) (reading .length)
 
@@ -298,8 +283,6 @@ accepted s reading w = header (eqb (headerFault s) 0) refl w
           number = number;
           walk = walk;
           elements = rw number at;
-          first-exponent = rw fields (exponents (fieldsOf s) (sound .backoffs) .0);
-          last-exponent = rw fields (exponents (fieldsOf s) (sound .backoffs) .1);
           inner = whole-inner (reading .null) (reading .length) 0 nothingYet (mapOf s .elements) refl walk;
           ends = whole-length (reading .null) (reading .length) 0 nothingYet (mapOf s .elements) refl walk;
           frame = rw number (rw zero-add at (framed (elementAt s) (reading .null) (reading .length) (countOf s) 0 nothingYet refl (rw (← at) walk) .0));

@@ -10,17 +10,17 @@ use lib.Dec.{eqb}
 use lib.ListN.{length}
 use borrow.Author.Tests.{lt-leb, ne-eqb, eqb-true}
 use Rattle.slots.proofs.Rolling.{order}
-use Rattle.message.specs.declared.element.Element.{Element}
+use Rattle.rules.specs.declared.element.Element.{Element}
 use Rattle.message.specs.declared.grants.Found.{Found}
 use Rattle.message.specs.declared.grants.Found.the-variants.{At, Nothing}
 use Rattle.message.specs.declared.grants.Granted.{Granted}
 use Rattle.message.specs.declared.grants.Granted.the-variants as granted
 use Rattle.message.specs.declared.reading.Reading.{Reading}
 use Rattle.message.specs.declared.reading.Verdict.the-variants as verdict
-use Rattle.message.specs.declared.refusal.Refusal.{Refusal}
+use Rattle.rules.specs.declared.refusal.Refusal.{Refusal}
 use Rattle.slots.specs.declared.time.MiniSlot.{MiniSlot}
 use Rattle.slots.specs.Time.{movedOn}
-use Rattle.message.specs.declared.fields.Fields.{Fields}
+use Rattle.rules.specs.declared.fields.Fields.{Fields}
 use Rattle.message.specs.Fields.{fieldsOf}
 use Rattle.message.specs.Reading.{readOf}
 use Rattle.message.specs.Element.{elementAt}

@@ -4,4 +4,3 @@ pub mod Parting
 pub mod Granting
 pub mod Lists
 pub mod Unique
-pub mod Worked

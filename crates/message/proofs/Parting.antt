@@ -8,7 +8,7 @@ use lib.Seq.{take-all, drop-length}
 use Rattle.message.specs.declared.reading.Reading.{Reading}
 use Rattle.message.specs.declared.reading.Verdict.{Verdict}
 use Rattle.message.specs.declared.reading.Verdict.the-variants.{Accepted, Refused}
-use Rattle.message.specs.declared.refusal.Refusal.{Refusal}
+use Rattle.rules.specs.declared.refusal.Refusal.{Refusal}
 use Rattle.message.specs.Element.{elementAt}
 use Rattle.message.specs.Lists.{listed}
 use Rattle.message.specs.Map.{afterNull}

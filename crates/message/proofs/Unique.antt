@@ -7,16 +7,7 @@ use denote.Triple.Clauses
 use denote.Ref.{now}
 use Rattle.slots.proofs.Unique.{One}
 use Rattle.message.proofs.reading.read.Reads as read
-use Rattle.message.proofs.element.Element.at.Reads as at
-use Rattle.message.proofs.fields.Backoff.bad.Reads as bad
-use Rattle.message.proofs.fields.Fields.bad_backoffs.Reads as bad-backoffs
-use Rattle.message.proofs.rules.within.Reads as within
-use Rattle.message.proofs.rules.granting.Reads as granting
-use Rattle.message.proofs.rules.sid_allowed.Reads as sid-allowed
-use Rattle.message.proofs.rules.fault.Reads as fault
-use Rattle.message.proofs.rules.nothing_yet.Reads as nothing-yet
-use Rattle.message.proofs.rules.advance.Reads as advance
-use Rattle.message.proofs.rules.ended.Reads as ended
+use Rattle.message.proofs.element.element_at.Reads as element-at
 use Rattle.message.proofs.grants.grant.Reads as grant
 use Rattle.message.proofs.after.after_null as after-null'
 use Rattle.message.proofs.after.after_null.Reads as after-null
@@ -28,35 +19,8 @@ use Rattle.message.proofs.reading.Reading.after_null.Kinds as part-kind
 pub read-unique : One read.Post
 read-unique κs a r r' s s' p q = p ∙ sym q
 
-pub at-unique : One at.Post
-at-unique κs a r r' s s' p q = p ∙ sym q
-
-pub bad-unique : One bad.Post
-bad-unique κs a r r' s s' p q = p ∙ sym q
-
-pub bad-backoffs-unique : One bad-backoffs.Post
-bad-backoffs-unique κs a r r' s s' p q = p ∙ sym q
-
-pub within-unique : One within.Post
-within-unique κs a r r' s s' p q = p ∙ sym q
-
-pub granting-unique : One granting.Post
-granting-unique κs a r r' s s' p q = p ∙ sym q
-
-pub sid-allowed-unique : One sid-allowed.Post
-sid-allowed-unique κs a r r' s s' p q = p ∙ sym q
-
-pub fault-unique : One fault.Post
-fault-unique κs a r r' s s' p q = p ∙ sym q
-
-pub nothing-yet-unique : One nothing-yet.Post
-nothing-yet-unique κs a r r' s s' p q = p ∙ sym q
-
-pub advance-unique : One advance.Post
-advance-unique κs a r r' s s' p q = p ∙ sym q
-
-pub ended-unique : One ended.Post
-ended-unique κs a r r' s s' p q = p ∙ sym q
+pub element-at-unique : One element-at.Post
+element-at-unique κs a r r' s s' p q = p ∙ sym q
 
 pub grant-unique : One grant.Post
 grant-unique κs a r r' s s' p q = p ∙ sym q

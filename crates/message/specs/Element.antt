@@ -4,7 +4,7 @@ use mathlib.Core.Bool.{cond}
 use mathlib.Core.List.{List}
 use lib.Dec.{leb}
 use lib.ListN.{length, getD}
-use Rattle.message.specs.declared.element.Element.{Element}
+use Rattle.rules.specs.declared.element.Element.{Element}
 
 -- "Most significant byte first"
 unfoldable pub wordAt : List ℕ → ℕ → ℕ

@@ -1,8 +1,5 @@
-pub mod Refusals
-pub mod Sids
 pub mod Element
 pub mod Fields
-pub mod Rules
 pub mod Lists
 pub mod Map
 pub mod Reading

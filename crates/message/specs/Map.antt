@@ -4,10 +4,10 @@ use mathlib.Core.Bool.{cond, _&&_}
 use mathlib.Core.List.{List, [], _∷_}
 use lib.Dec.{eqb}
 use Rattle.slots.specs.Time.{movedOn}
-use Rattle.message.specs.declared.element.Element.{Element}
-use Rattle.message.specs.declared.fields.Fields.{Fields}
+use Rattle.rules.specs.declared.element.Element.{Element}
+use Rattle.rules.specs.declared.fields.Fields.{Fields}
 use Rattle.message.specs.Lists.{keep}
-use Rattle.message.specs.Rules.{granting}
+use Rattle.rules.specs.Rules.{granting}
 
 pub record Map : Type 0 where
   pub fields : Fields

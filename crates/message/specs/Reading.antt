@@ -4,15 +4,16 @@ use mathlib.Core.Bool.{cond, not, _||_}
 use mathlib.Core.List.{List}
 use lib.Dec.{ltb, eqb}
 use lib.ListN.{length}
-use Rattle.message.specs.declared.fields.Fields.{Fields}
-use Rattle.message.specs.declared.rules.Walked.{Walked}
-use Rattle.message.specs.declared.rules.Walked.the-variants.{Whole, Fault}
+use Rattle.rules.specs.declared.fields.Fields.{Fields}
+use Rattle.rules.specs.declared.rules.Walked.{Walked}
+use Rattle.rules.specs.declared.rules.Walked.the-variants.{Whole, Fault}
 use Rattle.message.specs.declared.reading.Verdict.{Verdict}
 use Rattle.message.specs.declared.reading.Verdict.the-variants.{Accepted, Refused}
-use Rattle.message.specs.Refusals.{Short, Count, Length, Backoff, numberOf, refusal}
+use Rattle.rules.specs.Refusals.{Short, Count, Length, Backoff, numberOf, refusal}
 use Rattle.message.specs.Element.{elementIn}
-use Rattle.message.specs.Fields.{fieldsOf, countOf, badBackoffs}
-use Rattle.message.specs.Rules.{walked, nothingYet}
+use Rattle.rules.specs.Backoffs.{badBackoffs}
+use Rattle.message.specs.Fields.{fieldsOf, countOf}
+use Rattle.rules.specs.Rules.{walked, nothingYet}
 use Rattle.message.specs.Map.{Map}
 use Rattle.message.specs.Lists.{listed}
 

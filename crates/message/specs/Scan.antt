@@ -2,22 +2,12 @@
 use Prim.Native.Nat.{ℕ, _-_}
 use mathlib.Core.Bool.{Bool, cond, _&&_}
 use lib.Dec.{eqb}
-use Rattle.message.specs.declared.element.Element.{Element}
-use Rattle.message.specs.declared.rules.Progress.{Progress}
+use Rattle.rules.specs.declared.element.Element.{Element}
 use Rattle.message.specs.declared.reading.Verdict.{Verdict}
 use Rattle.message.specs.declared.reading.Verdict.the-variants.{Accepted, Refused}
 use Rattle.message.specs.declared.reading.Checked.{Checked}
 use Rattle.message.specs.declared.reading.Checked.the-variants as checked
-use Rattle.message.specs.Refusals.{Use, Null, Sid, Place, numberOf}
-use Rattle.message.specs.Rules.{granting, unknownUse, misordered, wrongSid, misplaced}
-
--- the number of the first of 5, 10, 6, 7 that an element breaks, which it can wherever it stands; 0 where it breaks none of these
-unfoldable pub standingFault : Progress → Element → ℕ
-standingFault p e =
-    cond (unknownUse e) (numberOf Use)
-    (cond (misordered p e) (numberOf Null)
-    (cond (wrongSid e) (numberOf Sid)
-    (cond (misplaced p e) (numberOf Place) 0)))
+use Rattle.rules.specs.Rules.{granting}
 
 -- what a verdict says beyond the header's fields
 abbrev pub checkedBy : Verdict → Checked

@@ -1,40 +1,27 @@
-// An information element: SID 14 bits, use (IUC) 4 bits, offset 14 bits.
+// An information element in a message: SID 14 bits, use (IUC) 4 bits, offset 14 bits.
 ghost use mathlib.Core.Path.{_≡_};
 ghost use Prim.Native.Nat.{_+_, _*_, _/_, _%_, _≤_, _<_};
 ghost use lib.ListN.{length, getD};
 ghost use Rattle.message.specs.Element.{wordAt, elementOf, elementIn, elementAt};
+use rules::Element;
 
-pub struct Element {
-    pub sid: u32,
-    pub iuc: u32,
-    pub offset: u32,
-}
+const ZERO: Element = Element {
+    sid: 0,
+    iuc: 0,
+    offset: 0,
+};
 
-impl Element {
-    pub const MOST: usize = 240;
-
-    pub const LONGEST_MAP: u32 = 4096;
-
-    pub const LONGEST_GRANT: u64 = 255;
-
-    // The i-th element of a message; all zero where the bytes end before it does.
-    pub fn at(bytes: &[u8], i: usize) -> Element
-        ensures { λ r. ⌜ r ≡ elementAt (now (bytes .entry)) i ⌝ }
-    {
-        if bytes.len() < 20 {
-            return Element::ZERO;
-        }
-        if (bytes.len() - 20) / 4 < i {
-            return Element::ZERO;
-        }
-        element_in(bytes, i)
+// The i-th element of a message; all zero where the bytes end before it does.
+pub fn element_at(bytes: &[u8], i: usize) -> Element
+    ensures { λ r. ⌜ r ≡ elementAt (now (bytes .entry)) i ⌝ }
+{
+    if bytes.len() < 20 {
+        return ZERO;
     }
-
-    const ZERO: Element = Element {
-        sid: 0,
-        iuc: 0,
-        offset: 0,
-    };
+    if (bytes.len() - 20) / 4 < i {
+        return ZERO;
+    }
+    element_in(bytes, i)
 }
 
 // The i-th element, which is there.

@@ -6,12 +6,13 @@ ghost use Rattle.message.specs.Element.{elementAt};
 ghost use Rattle.message.specs.Lists.{listed};
 ghost use Rattle.message.specs.Grants.{kthGrant, grantedAt, grantOf};
 ghost use Rattle.message.specs.Scan.{grantsSid, hits, passedBy};
-use crate::element::Element;
+use crate::element::element_at;
 use crate::fields::fields_of;
 use crate::reading::Checked;
 use crate::reading::check;
-use crate::refusal::Refusal;
-use crate::rules::granting;
+use rules::Element;
+use rules::Refusal;
+use rules::granting;
 use slots::MiniSlot;
 
 // By first mini-slot and length; no such grant; or why the message is refused.
@@ -74,7 +75,7 @@ fn find_grant(bytes: &[u8], n: u32, sid: u32, k: u32) -> Found
 {
     let mut left = k;
     let mut i: u32 = 0;
-    let mut e = Element::at(bytes, 0);
+    let mut e = element_at(bytes, 0);
     let found = loop {
         if n <= i {
             break Found::Nothing;
@@ -82,7 +83,7 @@ fn find_grant(bytes: &[u8], n: u32, sid: u32, k: u32) -> Found
         if e.iuc == 7 {
             break Found::Nothing;
         }
-        let next = Element::at(bytes, (i as usize) + 1);
+        let next = element_at(bytes, (i as usize) + 1);
         if hits(e, sid, left) {
             break Found::At {
                 offset: e.offset,

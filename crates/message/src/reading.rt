@@ -3,24 +3,24 @@ ghost use mathlib.Core.Path.{_≡_};
 ghost use mathlib.Core.Bool.{true, false};
 ghost use Prim.Native.Nat.{_+_, _-_, _*_, _≤_};
 ghost use lib.ListN.{length};
-ghost use Rattle.message.specs.Rules.{walked, nothingYet};
+ghost use Rattle.rules.specs.Rules.{walked, nothingYet};
 ghost use Rattle.message.specs.Lists.{listed};
 ghost use Rattle.message.specs.Element.{elementIn};
 ghost use Rattle.message.specs.Reading.{headerFault, readOf};
 ghost use Rattle.message.specs.Scan.{checkedBy};
 use crate::element::element_in;
 use crate::element::wide;
-use crate::fields::Fields;
 use crate::fields::bad_backoffs_in;
 use crate::fields::fields_of;
-use crate::refusal::Refusal;
-use crate::rules::Progress;
-use crate::rules::Walked;
-use crate::rules::advance;
-use crate::rules::ended;
-use crate::rules::fault;
-use crate::rules::nothing_yet;
-use crate::rules::standing_fault;
+use rules::Fields;
+use rules::Progress;
+use rules::Refusal;
+use rules::Walked;
+use rules::advance;
+use rules::ended;
+use rules::fault;
+use rules::nothing_yet;
+use rules::standing_fault;
 
 pub struct Reading {
     pub fields: Fields,

@@ -14,7 +14,7 @@ use crate::words;
 use headend::Headend;
 use headend::Taken;
 use issuing::Issued;
-use message::Backoff;
+use rules::Backoff;
 use slots::MiniSlot;
 
 // A headend that no set-up has touched: all zeros.

@@ -1,7 +1,7 @@
 // The numbers that follow a line's word, looked up by their places, and the bytes. A number out of
 // the range that its place takes is brought into it, though such lines are kept out before.
 ghost use Prim.Native.Nat.{_≤_};
-use message::Backoff;
+use rules::Backoff;
 
 // The front of the numbers, as far as the line filled them.
 pub fn first_numbers(numbers: &[u32], n: usize) -> &[u32] {

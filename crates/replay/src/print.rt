@@ -1,7 +1,7 @@
 // The parts of an answer, to standard output.
 use crate::words;
-use message::Backoff;
-use message::Refusal;
+use rules::Backoff;
+use rules::Refusal;
 
 // The letters of a word, or another mark.
 pub fn say(word: u64) {

@@ -8,18 +8,19 @@ use lib.Dec.{ltb, eqb}
 use lib.ListN.{length, take}
 use lib.Seq.{getD-take}
 use borrow.Author.Tests.{ltb-false, eqb-false}
-use Rattle.message.specs.declared.element.Element.{Element}
-use Rattle.message.specs.declared.fields.Fields.{Fields}
-use Rattle.message.specs.declared.rules.Progress.{Progress}
-use Rattle.message.specs.declared.rules.Walked.{Walked}
-use Rattle.message.specs.declared.rules.Walked.the-variants.{Whole, Fault}
+use Rattle.rules.specs.declared.element.Element.{Element}
+use Rattle.rules.specs.declared.fields.Fields.{Fields}
+use Rattle.rules.specs.declared.rules.Progress.{Progress}
+use Rattle.rules.specs.declared.rules.Walked.{Walked}
+use Rattle.rules.specs.declared.rules.Walked.the-variants.{Whole, Fault}
 use Rattle.message.specs.declared.reading.Reading.{Reading}
 use Rattle.message.specs.declared.reading.Verdict.{Verdict}
 use Rattle.message.specs.declared.reading.Verdict.the-variants.{Accepted, Refused}
 use Rattle.message.specs.Element.{wordAt, elementAt}
-use Rattle.message.specs.Fields.{fieldsOf, countOf, badBackoffs}
-use Rattle.message.specs.Rules.{misordered, unknownUse, wrongSid, misplaced, tooFar, grantTooLong, faultOf, nothingYet, advanced, endedAt, walked}
-use Rattle.message.specs.Refusals.{refusal}
+use Rattle.rules.specs.Backoffs.{badBackoffs}
+use Rattle.message.specs.Fields.{fieldsOf, countOf}
+use Rattle.rules.specs.Rules.{misordered, unknownUse, wrongSid, misplaced, tooFar, grantTooLong, faultOf, nothingYet, advanced, endedAt, walked}
+use Rattle.rules.specs.Refusals.{refusal}
 use Rattle.message.specs.Lists.{listed}
 use Rattle.message.specs.Reading.{headerFault, mapOf, verdictOf, readOf}
 use Rattle.message.proofs.Ways.{or-none}

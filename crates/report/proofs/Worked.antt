@@ -5,10 +5,11 @@ use Prim.Native.Nat.{ℕ}
 use Rattle.slots.specs.Time.{ahead}
 use Rattle.slots.specs.Span.{within, qualifies, further, furthest, spanFrom, spanOf}
 use Rattle.message.specs.Lists.{listed}
-use Rattle.message.specs.Sids.{sidAllowed}
+use Rattle.rules.specs.Sids.{sidAllowed}
 use Rattle.message.specs.Element.{wordAt}
-use Rattle.message.specs.Fields.{fieldsOf, badBackoffs}
-use Rattle.message.specs.Rules.{misordered, misplaced, faultOf, advanced, endedAt, walked}
+use Rattle.rules.specs.Backoffs.{badBackoffs}
+use Rattle.message.specs.Fields.{fieldsOf}
+use Rattle.rules.specs.Rules.{misordered, misplaced, faultOf, advanced, endedAt, walked}
 use Rattle.message.specs.Reading.{headerFault, readOf}
 use Rattle.report.specs.Bodies.{nextOf, bodiesFrom, mapsIn}
 use Rattle.report.specs.Decimal.{placesFrom, decimalOf}

@@ -7,7 +7,7 @@ use lib.ListN.{length, take, drop}
 use Rattle.slots.specs.Span.{Described}
 use Rattle.message.specs.declared.reading.Verdict.{Verdict}
 use Rattle.message.specs.declared.reading.Verdict.the-variants.{Accepted, Refused}
-use Rattle.message.specs.Refusals.{Short, Count, Length, numberOf}
+use Rattle.rules.specs.Refusals.{Short, Count, Length, numberOf}
 use Rattle.message.specs.Fields.{countOf}
 use Rattle.message.specs.Reading.{readOf}
 use Rattle.report.specs.declared.bodies.Body.{Body}

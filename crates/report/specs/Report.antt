@@ -4,7 +4,7 @@ use mathlib.Core.Bool.{cond}
 use mathlib.Core.List.{List, [], _∷_}
 use lib.Dec.{ltb}
 use lib.ListN.{length}
-use Rattle.message.specs.Refusals.{Room, numberOf, refusal}
+use Rattle.rules.specs.Refusals.{Room, numberOf, refusal}
 use Rattle.report.specs.declared.reporting.Reported.{Reported}
 use Rattle.report.specs.declared.reporting.Reported.the-variants.{Length, Refused}
 use Rattle.report.specs.Text.{textOf, onto}

@@ -2,9 +2,9 @@
 ghost use mathlib.Core.Path.{_≡_};
 ghost use Prim.Native.Nat.{_<_};
 ghost use Rattle.report.specs.Bodies.{bodyBy, nextOf};
-use message::Refusal;
 use message::Verdict;
 use message::read;
+use rules::Refusal;
 use slots::MiniSlot;
 
 // What the report says of an accepted MAP.

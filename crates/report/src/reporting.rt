@@ -13,7 +13,7 @@ use crate::lines::put;
 use crate::lines::put_map;
 use crate::lines::put_refused;
 use crate::lines::put_span;
-use message::Refusal;
+use rules::Refusal;
 use slots::Added;
 use slots::Span;
 

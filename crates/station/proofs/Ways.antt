@@ -11,8 +11,8 @@ use native.Mathlib.Omega.{arith}
 use lib.Dec.{ltb}
 use borrow.Author.Tests.{ne-eqb, not-true}
 use Rattle.slots.specs.declared.time.MiniSlot.{MiniSlot}
-use Rattle.message.specs.Sids.{unicast}
-use Rattle.message.proofs.Ways.{said, said-not}
+use Rattle.rules.specs.Sids.{unicast}
+use Rattle.rules.proofs.Ways.{said, said-not}
 use Rattle.station.specs.declared.record.Phase.{Phase}
 use Rattle.station.specs.declared.record.Phase.the-variants.{Idle, Wanting, Deferring, Waiting}
 use Rattle.station.specs.declared.record.Station.{Station}

@@ -2,8 +2,8 @@
 use Prim.Native.Nat.{ℕ}
 use mathlib.Core.Bool.{Bool, true, false, cond, not}
 use lib.Dec.{eqb}
-use Rattle.message.specs.Sids.{unicast}
-use Rattle.message.specs.Refusals.{Sid, Busy, Size, numberOf, refusal}
+use Rattle.rules.specs.Sids.{unicast}
+use Rattle.rules.specs.Refusals.{Sid, Busy, Size, numberOf, refusal}
 use Rattle.station.specs.declared.record.Phase.{Phase}
 use Rattle.station.specs.declared.record.Phase.the-variants.{Idle, Wanting, Deferring, Waiting}
 use Rattle.station.specs.declared.record.Remembered.the-variants.{Nothing}

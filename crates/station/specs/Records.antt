@@ -2,8 +2,8 @@
 use Prim.Native.Nat.{ℕ}
 use mathlib.Core.Bool.{Bool, false, cond, not, _||_}
 use lib.Dec.{ltb}
-use Rattle.message.specs.Sids.{within, unicast}
-use Rattle.message.specs.Refusals.{Sid, Size, numberOf}
+use Rattle.rules.specs.Sids.{within, unicast}
+use Rattle.rules.specs.Refusals.{Sid, Size, numberOf}
 use Rattle.station.specs.declared.record.Phase.{Phase}
 use Rattle.station.specs.declared.record.Phase.the-variants.{Idle, Wanting, Deferring, Waiting}
 use Rattle.station.specs.declared.record.Station.{Station}

@@ -12,7 +12,7 @@ use crate::record::bad_r;
 use crate::record::bad_sid;
 use crate::record::bad_size;
 use crate::record::record_fault;
-use message::Refusal;
+use rules::Refusal;
 
 impl Station {
     pub fn new(sid: u32, channel: u8, count: u8, r: u32) -> SetUp

@@ -1,10 +1,10 @@
 // A station's record and its phases, and what is refused in it.
 ghost use mathlib.Core.Path.{_≡_};
 ghost use mathlib.Core.Bool.{not};
-ghost use Rattle.message.specs.Sids.{unicast};
+ghost use Rattle.rules.specs.Sids.{unicast};
 ghost use Rattle.station.specs.Records.{badSize, badR, badPhase, recordFault};
-use message::Refusal;
-use message::rules::within;
+use rules::Refusal;
+use rules::within;
 use slots::MiniSlot;
 
 // What becomes of the packet that was offered. `size` is the packet's, in mini-slots.

@@ -8,20 +8,20 @@ use lib.ListN.{length, take, drop, set, length-append, take-append-drop, length-
 use lib.Seq.{sets-eq, take-at, drop-at, drop-drop, length-take-le, take-length}
 use Rattle.message.proofs.Lists.{length-listed, listed-last}
 use Rattle.message.proofs.Ways.{said, said-not}
-use Rattle.message.specs.declared.element.Element.{Element}
+use Rattle.rules.specs.declared.element.Element.{Element}
 use Rattle.message.specs.Lists.{listed}
 use Rattle.writer.specs.Writing.{bytesOf, wordOf, headerOf, elementsOf, messageOf, laidOut, onto, roomFor, writtenBy, writtenOf, writeInto}
-use Rattle.message.specs.declared.fields.Fields.{Fields}
+use Rattle.rules.specs.declared.fields.Fields.{Fields}
 use borrow.Author.Tests.{le-leb, lt-leb, lt-ltb, le-ltb, eq-eqb, ne-eqb, ltb-false, eqb-false}
 use mathlib.Core.Bool.{Bool, true, false, cond}
 use lib.Dec.{ltb, eqb}
-use Rattle.message.specs.declared.refusal.Refusal.{Refusal}
-use Rattle.message.specs.declared.rules.Walked.{Walked}
-use Rattle.message.specs.declared.rules.Walked.the-variants.{Whole, Fault}
+use Rattle.rules.specs.declared.refusal.Refusal.{Refusal}
+use Rattle.rules.specs.declared.rules.Walked.{Walked}
+use Rattle.rules.specs.declared.rules.Walked.the-variants.{Whole, Fault}
 use Rattle.writer.specs.declared.writing.Written.{Written}
 use Rattle.writer.specs.declared.writing.Written.the-variants.{Size, Refused}
-use Rattle.message.specs.Fields.{badBackoffs}
-use Rattle.message.specs.Rules.{walked, nothingYet}
+use Rattle.rules.specs.Backoffs.{badBackoffs}
+use Rattle.rules.specs.Rules.{walked, nothingYet}
 
 pub four-stores : (o : List ℕ) (at a b c d : ℕ) → at + 4 ≤ length o → set (set (set (set o at a) (at + 1) b) (at + 2) c) (at + 3) d ≡ take at o ++ ((a ∷ b ∷ c ∷ d ∷ []) ++ drop (at + 4) o)
 four-stores o at a b c d h =

@@ -10,11 +10,11 @@ use lib.Dec.{leb, eqb}
 use borrow.Author.Tests.{leb-true, eqb-true, ltb-false, not-false}
 use lib.ListN.{length, getD, take, drop, set, length-append, length-drop, take-append-drop}
 use lib.Seq.{getD-append-add, drop-cons, take-add, drop-drop, take-all, set-append-left, set-getD, getD-set-same, length-take-le, take-at}
-use Rattle.message.specs.declared.element.Element.{Element}
-use Rattle.message.specs.declared.fields.Fields.{Fields}
-use Rattle.message.specs.declared.rules.Progress.{Progress}
-use Rattle.message.specs.declared.rules.Walked.the-variants.{Whole}
-use Rattle.message.specs.Rules.{granting, misplaced, walked, advanced, nothingYet}
+use Rattle.rules.specs.declared.element.Element.{Element}
+use Rattle.rules.specs.declared.fields.Fields.{Fields}
+use Rattle.rules.specs.declared.rules.Progress.{Progress}
+use Rattle.rules.specs.declared.rules.Walked.the-variants.{Whole}
+use Rattle.rules.specs.Rules.{granting, misplaced, walked, advanced, nothingYet}
 use Rattle.message.specs.declared.reading.Reading.{Reading}
 use Rattle.message.specs.declared.reading.Verdict.the-variants.{Accepted}
 use Rattle.message.specs.Reading.{headerFault, mapOf, readOf}
@@ -22,8 +22,9 @@ use Rattle.message.proofs.Ways.{header-good}
 use Rattle.message.proofs.Lists.{length-listed}
 use Rattle.writer.proofs.Stores.{length-header, length-message, Writes, writes}
 use Rattle.message.proofs.Accepted.{Passes, whole-step, accepted}
-use Rattle.message.specs.Sids.{within, sidAllowed}
-use Rattle.message.specs.Fields.{fieldsOf, countOf, badBackoffs}
+use Rattle.rules.specs.Sids.{within, sidAllowed}
+use Rattle.rules.specs.Backoffs.{badBackoffs}
+use Rattle.message.specs.Fields.{fieldsOf, countOf}
 use contract.Lifetimes
 use borrow.Fn.World
 use borrow.Fn.Kinds as Kinds'

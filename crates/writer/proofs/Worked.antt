@@ -5,16 +5,17 @@ use mathlib.Core.List.{List, _∷_}
 use Prim.Native.Nat.{ℕ}
 use lib.Dec.{eqb}
 use lib.ListN.{replicate}
-use Rattle.message.specs.declared.fields.Fields.{Fields}
+use Rattle.rules.specs.declared.fields.Fields.{Fields}
 use Rattle.message.specs.declared.reading.Verdict.{Verdict}
 use Rattle.message.specs.declared.reading.Verdict.the-variants.{Accepted, Refused}
 use Rattle.message.specs.Lists.{listed}
-use Rattle.message.specs.Sids.{sidAllowed}
+use Rattle.rules.specs.Sids.{sidAllowed}
 use Rattle.message.specs.Element.{wordAt, elementOf}
-use Rattle.message.specs.Fields.{fieldsOf, badBackoffs}
-use Rattle.message.specs.Rules.{misordered, misplaced, faultOf, advanced, endedAt, walked}
+use Rattle.rules.specs.Backoffs.{badBackoffs}
+use Rattle.message.specs.Fields.{fieldsOf}
+use Rattle.rules.specs.Rules.{misordered, misplaced, faultOf, advanced, endedAt, walked}
 use Rattle.message.specs.Reading.{headerFault, readOf}
-use Rattle.message.proofs.Worked.{element, request}
+use Rattle.rules.proofs.Worked.{element, request}
 use Rattle.writer.specs.Writing.{wordOf, bytesOf, headerOf, elementsOf, messageOf}
 
 -- an element is this word, both ways

@@ -4,15 +4,15 @@ use mathlib.Core.Bool.{cond, _||_}
 use mathlib.Core.List.{List, [], _∷_, _++_}
 use lib.Dec.{leb, ltb, eqb}
 use lib.ListN.{length, drop, getD}
-use Rattle.message.specs.declared.element.Element.{Element}
-use Rattle.message.specs.declared.fields.Fields.{Fields}
-use Rattle.message.specs.declared.rules.Walked.{Walked}
-use Rattle.message.specs.declared.rules.Walked.the-variants.{Whole, Fault}
+use Rattle.rules.specs.declared.element.Element.{Element}
+use Rattle.rules.specs.declared.fields.Fields.{Fields}
+use Rattle.rules.specs.declared.rules.Walked.{Walked}
+use Rattle.rules.specs.declared.rules.Walked.the-variants.{Whole, Fault}
 use Rattle.writer.specs.declared.writing.Written.{Written}
 use Rattle.writer.specs.declared.writing.Written.the-variants.{Size, Refused}
-use Rattle.message.specs.Refusals.{Count, Backoff, Room, numberOf, refusal}
-use Rattle.message.specs.Fields.{badBackoffs}
-use Rattle.message.specs.Rules.{walked, nothingYet}
+use Rattle.rules.specs.Refusals.{Count, Backoff, Room, numberOf, refusal}
+use Rattle.rules.specs.Backoffs.{badBackoffs}
+use Rattle.rules.specs.Rules.{walked, nothingYet}
 use Rattle.message.specs.Lists.{listed}
 
 -- "Most significant byte first"

@@ -5,16 +5,16 @@ ghost use mathlib.Core.List.{_++_};
 ghost use Prim.Native.Nat.{_+_, _*_, _≤_};
 ghost use lib.ListN.{length, take, drop, getD};
 ghost use Rattle.message.specs.Lists.{listed};
-ghost use Rattle.message.specs.Rules.{walked, nothingYet};
+ghost use Rattle.rules.specs.Rules.{walked, nothingYet};
 ghost use Rattle.writer.specs.Writing.{bytesOf, wordOf, headerOf, elementsOf, given, elementsGiven, roomFor, writtenBy, writtenOf, writeInto, laidOut};
-use message::Element;
-use message::Fields;
-use message::Refusal;
-use message::rules::Walked;
-use message::rules::advance;
-use message::rules::ended;
-use message::rules::fault;
-use message::rules::nothing_yet;
+use rules::Element;
+use rules::Fields;
+use rules::Refusal;
+use rules::Walked;
+use rules::advance;
+use rules::ended;
+use rules::fault;
+use rules::nothing_yet;
 
 // The bytes of the message, or why it is refused.
 pub enum Written {

@@ -4,7 +4,7 @@ use Prim.Native.Nat.{_-_, _≤_}
 use mathlib.Core.Path.{_≡_}
 use mathlib.Core.Bool.{not}
 use lib.ListN.{getD}
-use Rattle.message.specs.Sids.{within}
+use Rattle.rules.specs.Sids.{within}
 use Rattle.message.specs.Lists.{listed}
 use Rattle.headend.specs.Records.{any}
 use Rattle.headend.proofs.Scans.{any-begins, any-end, any-hit, any-next}

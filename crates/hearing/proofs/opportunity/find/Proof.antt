@@ -24,20 +24,20 @@ abbrev μ-loop : tie.MeasureT-loop
 loop-holds : tie.Need-loop-holds Inv-loop μ-loop
 loop-holds c = (search null-early, search needs, search needs, search find-begins)
 
-cast-at : tie.Need-cast-at Inv-loop μ-loop
-cast-at c = search needs
+cast-element-at : tie.Need-cast-element-at Inv-loop μ-loop
+cast-element-at c = search needs
 
-at-requires : tie.Need-at-requires Inv-loop μ-loop
-at-requires c κs = search needs
+element-at-requires : tie.Need-element-at-requires Inv-loop μ-loop
+element-at-requires c κs = search needs
 
-add-at : tie.Need-add-at Inv-loop μ-loop
-add-at c = search needs
+add-element-at : tie.Need-add-element-at Inv-loop μ-loop
+add-element-at c = search needs
 
-cast-at-2 : tie.Need-cast-at-2 Inv-loop μ-loop
-cast-at-2 c = search needs
+cast-element-at-2 : tie.Need-cast-element-at-2 Inv-loop μ-loop
+cast-element-at-2 c = search needs
 
-at-requires-2 : tie.Need-at-requires-2 Inv-loop μ-loop
-at-requires-2 c κs = search needs
+element-at-requires-2 : tie.Need-element-at-requires-2 Inv-loop μ-loop
+element-at-requires-2 c κs = search needs
 
 sub-noted : tie.Need-sub-noted Inv-loop μ-loop
 sub-noted c = search rises-on
@@ -55,7 +55,7 @@ loop-again : tie.Need-loop-again Inv-loop μ-loop
 loop-again c =
     let here = c .before .before .before .before .before in
     let ok = here .before .before .before .before .pre in
-    let is = c .before .before .at .ensures in
+    let is = c .before .before .element-at .ensures in
     let left = here .loop .inv .3 in (
       search needs,
       search needs,
@@ -76,11 +76,11 @@ find-spec =
     Inv-loop
     μ-loop
     loop-holds
-    cast-at
-    at-requires
-    add-at
-    cast-at-2
-    at-requires-2
+    cast-element-at
+    element-at-requires
+    add-element-at
+    cast-element-at-2
+    element-at-requires-2
     sub-noted
     noted-requires
     add-i

@@ -26,23 +26,23 @@ abbrev μ-loop : tie.MeasureT-loop
 loop-holds : tie.Need-loop-holds Inv-loop μ-loop
 loop-holds c = (search null-early, search needs, search pass-begins)
 
-cast-at : tie.Need-cast-at Inv-loop μ-loop
-cast-at c = search needs
+cast-element-at : tie.Need-cast-element-at Inv-loop μ-loop
+cast-element-at c = search needs
 
-at-requires : tie.Need-at-requires Inv-loop μ-loop
-at-requires c κs = search needs
+element-at-requires : tie.Need-element-at-requires Inv-loop μ-loop
+element-at-requires c κs = search needs
 
 step-of-requires : tie.Need-step-of-requires Inv-loop μ-loop
 step-of-requires c κs = search needs
 
-add-at : tie.Need-add-at Inv-loop μ-loop
-add-at c = search needs
+add-element-at : tie.Need-add-element-at Inv-loop μ-loop
+add-element-at c = search needs
 
-cast-at-2 : tie.Need-cast-at-2 Inv-loop μ-loop
-cast-at-2 c = search needs
+cast-element-at-2 : tie.Need-cast-element-at-2 Inv-loop μ-loop
+cast-element-at-2 c = search needs
 
-at-requires-2 : tie.Need-at-requires-2 Inv-loop μ-loop
-at-requires-2 c κs = search needs
+element-at-requires-2 : tie.Need-element-at-requires-2 Inv-loop μ-loop
+element-at-requires-2 c κs = search needs
 
 sub-count : tie.Need-sub-count Inv-loop μ-loop
 sub-count c = search rises-on
@@ -84,12 +84,12 @@ pass-spec =
     Inv-loop
     μ-loop
     loop-holds
-    cast-at
-    at-requires
+    cast-element-at
+    element-at-requires
     step-of-requires
-    add-at
-    cast-at-2
-    at-requires-2
+    add-element-at
+    cast-element-at-2
+    element-at-requires-2
     sub-count
     div-count
     mul-moved-on

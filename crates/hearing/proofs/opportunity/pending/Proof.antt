@@ -24,11 +24,11 @@ add-i c = search (needs, null-next-fits)
 loop-holds : tie.Need-loop-holds Inv-loop μ-loop
 loop-holds c = (search few, search null-next, search pending-begins)
 
-cast-at : tie.Need-cast-at Inv-loop μ-loop
-cast-at c = search needs
+cast-element-at : tie.Need-cast-element-at Inv-loop μ-loop
+cast-element-at c = search needs
 
-at-requires : tie.Need-at-requires Inv-loop μ-loop
-at-requires c κs = search needs
+element-at-requires : tie.Need-element-at-requires Inv-loop μ-loop
+element-at-requires c κs = search needs
 
 granted-to-requires : tie.Need-granted-to-requires Inv-loop μ-loop
 granted-to-requires c κs = search needs
@@ -56,8 +56,8 @@ pending-spec =
     μ-loop
     add-i
     loop-holds
-    cast-at
-    at-requires
+    cast-element-at
+    element-at-requires
     granted-to-requires
     add-i-2
     loop-less

@@ -1,4 +1,4 @@
-use Rattle.message.specs.Fields.{badBackoffs}
+use Rattle.rules.specs.Backoffs.{badBackoffs}
 use mathlib.Core.Path.{_∙_, ap}
 use borrow.Author.Needs.{needs}
 use Rattle.message.proofs.fields.bad_backoffs_in.Statement.{statement}

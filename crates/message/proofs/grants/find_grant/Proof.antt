@@ -4,8 +4,7 @@ use Rattle.message.specs.Lists.{listed}
 use Rattle.message.specs.Element.{elementAt}
 use Prim.Native.Nat.{_-_, _≤_}
 use mathlib.Core.Path.{_≡_, refl}
-use Rattle.message.proofs.Granting.{past-end}
-use Rattle.message.proofs.Granting.{scan-begins, scan-end, scan-null, scan-next, scans}
+use Rattle.message.proofs.Granting.{past-end, scan-begins, scan-end, scan-null, scan-next, scans}
 use Rattle.message.proofs.grants.find_grant.Statement.{statement}
 use Rattle.message.proofs.grants.find_grant.Tie as tie
 
@@ -15,20 +14,20 @@ Inv-loop bytes n sid k left₀ i₀ e₀ left i e = (i ≤ n) × ((e ≡ element
 abbrev μ-loop : tie.MeasureT-loop
 μ-loop bytes n sid k left₀ i₀ e₀ left i e = n - i
 
-at-requires : tie.Need-at-requires Inv-loop μ-loop
-at-requires c κs = search needs
+element-at-requires : tie.Need-element-at-requires Inv-loop μ-loop
+element-at-requires c κs = search needs
 
 loop-holds : tie.Need-loop-holds Inv-loop μ-loop
 loop-holds c = (search needs, (search needs, scan-begins _ _ _ _ _ _ refl refl))
 
-cast-at : tie.Need-cast-at Inv-loop μ-loop
-cast-at c = search needs
+cast-element-at : tie.Need-cast-element-at Inv-loop μ-loop
+cast-element-at c = search needs
 
-add-at : tie.Need-add-at Inv-loop μ-loop
-add-at c = search needs
+add-element-at : tie.Need-add-element-at Inv-loop μ-loop
+add-element-at c = search needs
 
-at-requires-2 : tie.Need-at-requires-2 Inv-loop μ-loop
-at-requires-2 c κs = search needs
+element-at-requires-2 : tie.Need-element-at-requires-2 Inv-loop μ-loop
+element-at-requires-2 c κs = search needs
 
 hits-requires : tie.Need-hits-requires Inv-loop μ-loop
 hits-requires c κs = search needs
@@ -46,7 +45,7 @@ loop-less : tie.Need-loop-less Inv-loop μ-loop
 loop-less c = search needs
 
 loop-again : tie.Need-loop-again Inv-loop μ-loop
-loop-again c = (search needs, (c .before .before .before .at2 .ensures, scan-next _ _ _ _ _ _ (c .before .before .before .before .before .before .before .loop .inv .1 .1) (c .before .before .before .before .before .before .if1 .left) _ (c .before .before .before .before .before .before .before .loop .inv .1 .0) (c .before .before .before .before .if2 .left) (past-end _ _ (c .before .before .before .before .before .before .before .before .before .before .pre)) _ (c .before .before .before .at2 .ensures) _ _ (c .before .before .hits .ensures) (c .before .if3 .left) (c .passed .ensures)))
+loop-again c = (search needs, (c .before .before .before .element-at2 .ensures, scan-next _ _ _ _ _ _ (c .before .before .before .before .before .before .before .loop .inv .1 .1) (c .before .before .before .before .before .before .if1 .left) _ (c .before .before .before .before .before .before .before .loop .inv .1 .0) (c .before .before .before .before .if2 .left) (past-end _ _ (c .before .before .before .before .before .before .before .before .before .before .pre)) _ (c .before .before .before .element-at2 .ensures) _ _ (c .before .before .hits .ensures) (c .before .if3 .left) (c .passed .ensures)))
 
 returns : tie.Need-returns Inv-loop μ-loop
 returns c = search scan-end
@@ -63,11 +62,11 @@ find-grant-spec =
     (tie.spec
     Inv-loop
     μ-loop
-    at-requires
+    element-at-requires
     loop-holds
-    cast-at
-    add-at
-    at-requires-2
+    cast-element-at
+    add-element-at
+    element-at-requires-2
     hits-requires
     up-to-requires
     passed-requires

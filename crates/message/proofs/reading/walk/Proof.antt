@@ -2,10 +2,11 @@ use borrow.Author.Needs.{needs}
 use mathlib.Core.Path.{_≡_, refl, _∙_}
 use mathlib.Core.Bool.{false}
 use Prim.Native.Nat.{_-_, _≤_}
-use Rattle.message.specs.Rules.{walked, nothingYet}
+use Rattle.rules.specs.Rules.{walked, nothingYet}
 use Rattle.message.specs.Lists.{listed}
 use Rattle.message.specs.Element.{elementIn}
-use Rattle.message.proofs.Ways.{walk-begins, walk-end, walk-fault, walk-next, advanced-closed}
+use Rattle.rules.proofs.Ways.{advanced-closed}
+use Rattle.message.proofs.Ways.{walk-begins, walk-end, walk-fault, walk-next}
 use Rattle.message.proofs.reading.walk.Statement.{statement}
 use Rattle.message.proofs.reading.walk.Tie as tie
 

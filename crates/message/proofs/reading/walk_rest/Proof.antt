@@ -1,7 +1,7 @@
 use borrow.Author.Needs.{needs}
 use mathlib.Core.Path.{_≡_, refl}
 use Prim.Native.Nat.{_-_, _≤_}
-use Rattle.message.specs.Rules.{walked}
+use Rattle.rules.specs.Rules.{walked}
 use Rattle.message.specs.Lists.{listed}
 use Rattle.message.specs.Element.{elementIn}
 use Rattle.message.proofs.Ways.{walk-end, rest-fault, rest-next}

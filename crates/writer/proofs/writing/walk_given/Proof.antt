@@ -1,6 +1,6 @@
 use borrow.Author.Needs.{needs}
 use mathlib.Core.List.{[]}
-use Rattle.message.specs.Rules.{walked, nothingYet}
+use Rattle.rules.specs.Rules.{walked, nothingYet}
 use Rattle.message.specs.Lists.{listed}
 use Rattle.writer.specs.Writing.{given}
 use Prim.Native.Nat.{_-_, _≤_}

@@ -1,0 +1,4 @@
+pub mod Refusals
+pub mod Sids
+pub mod Backoffs
+pub mod Rules
