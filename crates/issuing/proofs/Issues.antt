@@ -4,11 +4,11 @@ use mathlib.Core.Bool.{Bool, true, false, _||_}
 use mathlib.Core.List.{List, [], _∷_, _++_, map, append-assoc}
 use Prim.Native.Nat.{ℕ, zero, suc, _+_, _-_, _*_, _≤_, _<_}
 use native.Mathlib.Omega.{arith}
-use native.Mathlib.Nat.{zero-add, sub-zero, min-le-left}
+use native.Mathlib.Nat.{zero-add, sub-zero}
 use lib.Dec.{ltb, eqb}
-use lib.ListN.{length, take, drop, getD, set, replicate, length-append, length-take}
+use lib.ListN.{length, take, drop, getD, set, replicate, length-append}
 use lib.Seq.{set-at, take-at, take-length}
-use borrow.Author.Tests.{lt-ltb, le-ltb, eq-eqb, ne-eqb, ltb-false, eqb-false, le-leb}
+use borrow.Author.Tests.{eq-eqb, ne-eqb, ltb-false, eqb-false, le-leb}
 use Rattle.slots.specs.declared.time.MiniSlot.{MiniSlot}
 use Rattle.slots.specs.Time.{ahead, movedOn}
 use Rattle.rules.specs.declared.fields.Fields.{Fields}
@@ -21,7 +21,7 @@ use Rattle.message.specs.Reading.{readOf}
 use Rattle.writer.specs.Writing.{messageOf, laidOut}
 use Rattle.message.proofs.Lists.{listed-last, length-listed}
 use Rattle.writer.proofs.Stores.{length-message}
-use Rattle.message.proofs.Ways.{said, passed, or-none}
+use Rattle.message.proofs.Ways.{passed, or-none}
 use Rattle.headend.specs.declared.record.Headend.{Headend}
 use Rattle.headend.specs.Requests.{Request, requestAt, heldOf}
 use Rattle.headend.specs.Records.{withPlaces, recordFault}
@@ -30,40 +30,43 @@ use Rattle.headend.proofs.Tables.{held-is, length-held}
 use Rattle.issuing.specs.declared.issuing.Issuing.{Issuing}
 use Rattle.issuing.specs.declared.issuing.Issued.the-variants as issued
 use Rattle.issuing.specs.Plan.{granted, pending, total, elementsOf}
-use Rattle.issuing.specs.Issue.{grantedIn, pendingIn, planFields, planOf, planMessage, badAck, badPlan, refuses, callFault, issueFault, placesOf, movedTo, issuedFrom, issueOf, issueInto}
-use Rattle.issuing.specs.Scan.{firstHeld, afterFirst}
+use Rattle.issuing.specs.Issue.{grantedIn, pendingIn, planOf, planMessage, badAck, badPlan, refuses, callFault, issueFault, placesOf, movedTo, issuedFrom, issueOf, issueInto}
+use Rattle.issuing.specs.Scan.{firstFault, firstHeld, afterFirst, messageBy, acceptedInto}
 use Rattle.issuing.proofs.Held.{granted-listed, pending-listed, total-granted, length-granted}
 use Rattle.issuing.proofs.Planned.{plan-size, plan-length}
 
 pub ack-compared : (old next new a b : ℕ) → a ≡ ahead 32 old next → b ≡ ahead 32 old new → ltb a b ≡ ltb (ahead 32 old next) (ahead 32 old new)
 ack-compared old next new a b p q = rw (p, q) refl
 
-module _ (h : Headend) (ack c budget room : ℕ) (k : ℕ) (is : k ≡ recordFault h) where
-  pub call-record : (k ≡ 0 → ⊥) → k ≡ callFault h ack c budget room
-  unfolding callFault
-  call-record a = rw (ne-eqb (recordFault h) 0 (λ z. a (is ∙ z))) is
+module _ (k : ℕ) (a p r : Bool) where
+  pub fault-record : (k ≡ 0 → ⊥) → k ≡ firstFault k a p r
+  unfolding firstFault
+  fault-record e = rw (ne-eqb k 0 e) refl
 
   module _ (good : k ≡ 0) where
-    good' : eqb (recordFault h) 0 ≡ true
-    good' = eq-eqb (recordFault h) 0 (sym is ∙ good)
+    pub fault-ack : a ≡ true → 22 ≡ firstFault k a p r
+    unfolding firstFault
+    fault-ack e = rw (good, e) refl
 
-    pub call-ack : badAck h ack ≡ true → 22 ≡ callFault h ack c budget room
-    unfolding callFault
-    call-ack a = rw (good', a) refl
+    module _ (acks : a ≡ false) where
+      pub fault-plan : p ≡ true → 23 ≡ firstFault k a p r
+      unfolding firstFault
+      fault-plan e = rw (good, acks, e) refl
 
-    pub call-plan : badAck h ack ≡ false → badPlan c budget ≡ true → 23 ≡ callFault h ack c budget room
-    unfolding callFault
-    call-plan a b = rw (good', a, b) refl
+      module _ (plans : p ≡ false) where
+        pub fault-room : r ≡ true → 11 ≡ firstFault k a p r
+        unfolding firstFault
+        fault-room e = rw (good, acks, plans, e) refl
 
-    pub call-room : badAck h ack ≡ false → badPlan c budget ≡ false → room < 24 + 4 * h .held → 11 ≡ callFault h ack c budget room
-    unfolding callFault
-    call-room a b e = rw (good', a, b, lt-ltb room (24 + 4 * h .held) e) refl
+        pub fault-none : r ≡ false → 0 ≡ firstFault k a p r
+        unfolding firstFault
+        fault-none e = rw (good, acks, plans, e) refl
 
-    pub call-good : badAck h ack ≡ false → badPlan c budget ≡ false → 24 + 4 * h .held ≤ room → 0 ≡ callFault h ack c budget room
-    unfolding callFault
-    call-good a b e = rw (good', a, b, le-ltb room (24 + 4 * h .held) e) refl
+pub ruleset fault-ways = (fault-record, fault-ack, fault-plan, fault-room, fault-none)
 
-pub ruleset call-ways = (said, call-record, call-ack, call-plan, call-room, call-good)
+pub call-fault-is : (h : Headend) (ack c budget room k : ℕ) (a p : Bool) (n : ℕ) → k ≡ recordFault h → a ≡ badAck h ack → p ≡ badPlan c budget → n ≡ firstFault k a p (ltb room (24 + 4 * h .held)) → n ≡ callFault h ack c budget room
+unfolding callFault firstFault
+call-fault-is h ack c budget room k a p n d e f is = rw (← d, ← e, ← f) is
 
 module _ (s : List ℕ) (v : Verdict) (is : v ≡ readOf s) where
   pub refuses-none : (r : Reading) → v ≡ verdict.Accepted r → false ≡ refuses (readOf s)
@@ -177,7 +180,7 @@ module _ (h : Headend) (c budget : ℕ) (few : h .held ≤ 64) (g t : ℕ) (coun
   pub total-fits : c ≤ budget → c + t ≤ budget
   total-fits w = omega (arith, total-granted (budget - c) (heldOf h), counts .1)
 
-  pub plan-by : (ack : ℕ) → messageOf (planFields h ack) (elementsOf (h .short) c (firstHeld h g) (afterFirst h g)) ≡ planMessage h ack c budget
+  pub plan-by : (ack : ℕ) → messageBy h ack c g ≡ planMessage h ack c budget
   unfolding planOf
   plan-by ack = rw (granted-first, pending-after) refl
 
@@ -185,8 +188,20 @@ module _ (h : Headend) (c budget : ℕ) (few : h .held ≤ 64) (g t : ℕ) (coun
   unfolding issuedFrom planOf
   issued-by ack = rw (plan-length (h .short) c (grantedIn h c budget) (pendingIn h c budget), ← counts .1, pending-after) refl
 
-pub part-fits : (s : List ℕ) (n m : ℕ) → n ≤ m → length (take (n - 0) s) ≤ m
-part-fits s n m h = omega (arith, length-take (n - 0) s, min-le-left (n - 0) (length s))
+-- 24, and what the lent bytes hold then
+module _ (own old : List ℕ) (b : Bool) (is : b ≡ refuses (readOf own)) where
+  pub check-refused : b ≡ true → (true ≡ refuses (readOf own)) × (old ≡ acceptedInto own old)
+  check-refused e = let it = sym is ∙ e in (sym it, rw it refl)
+
+  pub check-accepted : (new : List ℕ) → b ≡ false → new ≡ take (length own) own ++ drop (length own) old → (false ≡ refuses (readOf own)) × (new ≡ acceptedInto own old)
+  check-accepted new e p = let it = sym is ∙ e in (sym it, rw it (p ∙ rw (take-length own) refl))
+
+-- .. of the MAP at the front of the headend's own array
+pub checked-front : (h : Headend) (own : List ℕ) (ack c g : ℕ) (old new : List ℕ) (b : Bool) → take (24 + 4 * h .held) own ≡ messageBy h ack c g → (b ≡ refuses (readOf (take (24 + 4 * h .held - 0) own))) × (new ≡ acceptedInto (take (24 + 4 * h .held - 0) own) old) → (b ≡ refuses (readOf (messageBy h ack c g))) × (new ≡ acceptedInto (messageBy h ack c g) old)
+checked-front h own ack c g old new b e r = rw (sub-zero (24 + 4 * h .held), e) at r
+
+pub answers : (r r' : Headend) (size : ℕ) → r ≡ r' → _≡_ {A = Issuing} (record { headend = r; answer = issued.Size size }) (record { headend = r'; answer = issued.Size size })
+answers r r' size e = λ i. record { headend = e i; answer = issued.Size size }
 
 -- what `issue` answers, and what the lent bytes hold then
 module _ (h : Headend) (ack c budget : ℕ) (old : List ℕ) (k : ℕ) (is : k ≡ callFault h ack c budget (length old)) where
@@ -196,27 +211,22 @@ module _ (h : Headend) (ack c budget : ℕ) (old : List ℕ) (k : ℕ) (is : k �
       let no : eqb (callFault h ack c budget (length old)) 0 ≡ false = ne-eqb _ 0 (λ z. some (is ∙ z)) in
       (rw (no, no, ← is) e, rw (no, no) refl)
 
-  module _ (good : k ≡ 0) (g t : ℕ) (counts : (g ≡ length (grantedIn h c budget)) × (t ≡ total (grantedIn h c budget))) (own : List ℕ) (is-made : take (24 + 4 * h .held) own ≡ messageOf (planFields h ack) (elementsOf (h .short) c (firstHeld h g) (afterFirst h g))) where
-    called' : Called h ack c budget (length old)
-    called' = called h ack c budget (length old) (sym is ∙ good)
+  module _ (good : k ≡ 0) (g t : ℕ) (counts : (g ≡ length (grantedIn h c budget)) × (t ≡ total (grantedIn h c budget))) (b : Bool) (new : List ℕ) (put : (b ≡ refuses (readOf (messageBy h ack c g))) × (new ≡ acceptedInto (messageBy h ack c g) old)) where
+    few : h .held ≤ 64
+    few = called h ack c budget (length old) (sym is ∙ good) .few
 
     yes : eqb (callFault h ack c budget (length old)) 0 ≡ true
     yes = eq-eqb (callFault h ack c budget (length old)) 0 (sym is ∙ good)
 
-    message : take (24 + 4 * h .held - 0) own ≡ planMessage h ack c budget
-    message = rw (sub-zero (24 + 4 * h .held)) (is-made ∙ plan-by h c budget (called' .few) g t counts ack)
+    put' : (b ≡ refuses (readOf (planMessage h ack c budget))) × (new ≡ acceptedInto (planMessage h ack c budget) old)
+    put' = rw (plan-by h c budget few g t counts ack) at put
 
-    module _ (b : Bool) (reads : b ≡ refuses (readOf (take (24 + 4 * h .held - 0) own))) where
-      reads' : b ≡ refuses (readOf (planMessage h ack c budget))
-      reads' = reads ∙ ap (λ (s : List ℕ). refuses (readOf s)) message
+    pub issue-selfcheck : (r : Issuing) → b ≡ true → r ≡ record { headend = h; answer = issued.Refused (record { number = 24; element = 0 }) } → (r ≡ issueOf h ack c budget (length old)) × (new ≡ issueInto h ack c budget old)
+    unfolding issueOf issueInto issueFault
+    issue-selfcheck r e f = let it = sym (put' .0) ∙ e in (rw (yes, it) f, rw (yes, it) (rw it at (put' .1)))
 
-      pub issue-selfcheck : (r : Issuing) → b ≡ true → r ≡ record { headend = h; answer = issued.Refused (record { number = 24; element = 0 }) } → (r ≡ issueOf h ack c budget (length old)) × (old ≡ issueInto h ack c budget old)
-      unfolding issueOf issueInto issueFault
-      issue-selfcheck r e f = let it = sym reads' ∙ e in (rw (yes, it) f, rw (yes, it) refl)
-
-      pub issue-done : (r : Headend) (new : List ℕ) → b ≡ false → r ≡ movedTo h ack (c + t) (afterFirst h g) → new ≡ take (length (take (24 + 4 * h .held - 0) own)) (take (24 + 4 * h .held - 0) own) ++ drop (length (take (24 + 4 * h .held - 0) own)) old → (record { headend = r; answer = issued.Size (24 + 4 * h .held) } ≡ issueOf h ack c budget (length old)) × (new ≡ issueInto h ack c budget old)
-      unfolding issueOf issueInto issueFault
-      issue-done r new e f p =
-          let it = sym reads' ∙ e in
-          let moved = f ∙ issued-by h c budget (called' .few) g t counts ack in
-          (rw (yes, it, ← moved) refl, rw (yes, it) (p ∙ rw (message, take-length (planMessage h ack c budget)) refl))
+    pub issue-done : (r : Issuing) → b ≡ false → r ≡ record { headend = movedTo h ack (c + t) (afterFirst h g); answer = issued.Size (24 + 4 * h .held) } → (r ≡ issueOf h ack c budget (length old)) × (new ≡ issueInto h ack c budget old)
+    unfolding issueOf issueInto issueFault
+    issue-done r e f =
+        let it = sym (put' .0) ∙ e in
+        (rw (yes, it, ← issued-by h c budget few g t counts ack) f, rw (yes, it) (rw it at (put' .1)))

@@ -1,34 +1,23 @@
 // The plan of a MAP: which requests are granted, and its elements.
 ghost use mathlib.Core.Path.{_≡_};
 ghost use mathlib.Core.Bool.{cond};
-ghost use Prim.Native.Nat.{_+_, _*_, _≤_};
+ghost use Prim.Native.Nat.{_+_, _-_, _*_, _≤_};
 ghost use lib.Dec.{leb};
 ghost use lib.ListN.{length, take};
-ghost use Rattle.writer.specs.Writing.{laidOut, messageOf};
+ghost use Rattle.writer.specs.Writing.{laidOut};
 ghost use Rattle.headend.specs.Requests.{heldOf};
-ghost use Rattle.issuing.specs.Plan.{granted, total, elementsOf};
+ghost use Rattle.issuing.specs.Plan.{granted, total};
 ghost use Rattle.issuing.specs.Issue.{planFields};
-ghost use Rattle.issuing.specs.Scan.{firstHeld, afterFirst, fitsAt, elementBy, lengthBy};
+ghost use Rattle.issuing.specs.Scan.{firstHeld, messageBy, sidBy, useBy, lengthBy, sumFrom, planBy};
 use headend::Headend;
-use rules::Element;
 use rules::Fields;
 use slots::MiniSlot;
 use writer::lay_out;
 
 // How many of the held requests are granted, and their mini-slots together.
 pub(crate) struct Grants {
-    pub count: u32,
+    pub count: usize,
     pub total: u32,
-}
-
-fn fits(sizes: &[u32; 64], held: u32, i: u32, left: u32) -> bool
-    requires { ⌜ held ≤ 64 ⌝ }
-    ensures { λ r. ⌜ r ≡ fitsAt (now (sizes .entry)) held i left ⌝ }
-{
-    if held <= i {
-        return false;
-    }
-    sizes[i as usize] <= left
 }
 
 // Full sizes in held order, stopping at the first that would pass the room.
@@ -39,8 +28,11 @@ pub(crate) fn grants_within(h: Headend, room: u32) -> Grants
     let sizes = h.sizes;
     let mut count = 0;
     let mut left = room;
-    while fits(&sizes, h.held, count, left) {
-        left -= sizes[count as usize];
+    while count < (h.held as usize) {
+        if left < sizes[count] {
+            break;
+        }
+        left -= sizes[count];
         count += 1;
     }
     Grants {
@@ -58,55 +50,41 @@ fn use_of(size: u32, short: u32) -> u32
     6
 }
 
-// The k-th element, at its offset.
-fn element_by(
-    sids: &[u32; 64],
-    sizes: &[u32; 64],
-    short: u32,
-    g: u32,
-    k: u32,
-    offset: u32,
-) -> Element
-    requires { ⌜ (g ≤ 64) × (k ≤ 65) ⌝ }
-    ensures { λ r. ⌜ r ≡ elementBy (now (sids .entry)) (now (sizes .entry)) short g k offset ⌝ }
+// The SID of the k-th element past the first.
+fn sid_by(sids: &[u32; 64], g: usize, k: usize) -> u32
+    requires { ⌜ (g ≤ 64) × ((1 ≤ k) × (k ≤ 65)) ⌝ }
+    ensures { λ r. ⌜ r ≡ sidBy (now (sids .entry)) g k ⌝ }
 {
-    if k == 0 {
-        return Element {
-            sid: 0x3FFF,
-            iuc: 1,
-            offset,
-        };
-    }
     if k <= g {
-        return Element {
-            sid: sids[(k as usize) - 1],
-            iuc: use_of(sizes[(k as usize) - 1], short),
-            offset,
-        };
+        return sids[k - 1];
     }
     if k == g + 1 {
-        return Element {
-            sid: 0,
-            iuc: 7,
-            offset,
-        };
+        return 0;
     }
-    Element {
-        sid: sids[(k as usize) - 2],
-        iuc: 5,
-        offset,
-    }
+    sids[k - 2]
 }
 
-fn length_by(sizes: &[u32; 64], c: u32, g: u32, k: u32) -> u32
-    requires { ⌜ g ≤ 64 ⌝ }
-    ensures { λ r. ⌜ r ≡ lengthBy (now (sizes .entry)) c g k ⌝ }
+// .. its use
+fn use_by(sizes: &[u32; 64], short: u32, g: usize, k: usize) -> u32
+    requires { ⌜ (g ≤ 64) × (1 ≤ k) ⌝ }
+    ensures { λ r. ⌜ r ≡ useBy (now (sizes .entry)) short g k ⌝ }
 {
-    if k == 0 {
-        return c;
-    }
     if k <= g {
-        return sizes[(k as usize) - 1];
+        return use_of(sizes[k - 1], short);
+    }
+    if k == g + 1 {
+        return 7;
+    }
+    5
+}
+
+// .. and the length of its interval.
+fn length_by(sizes: &[u32; 64], g: usize, k: usize) -> u32
+    requires { ⌜ (g ≤ 64) × (1 ≤ k) ⌝ }
+    ensures { λ r. ⌜ r ≡ lengthBy (now (sizes .entry)) g k ⌝ }
+{
+    if k <= g {
+        return sizes[k - 1];
     }
     0
 }
@@ -127,43 +105,46 @@ fn fields_of(h: Headend, ack: MiniSlot) -> Fields
     }
 }
 
-// The elements laid out: broadcast Request of c, the first g requests granted, the Null, the others pending.
-fn lay_plan(h: Headend, ack: MiniSlot, c: u32, g: u32, own: &mut [u8])
-    requires { ⌜ (h .held ≤ 64) × ((g ≤ h .held) × (c + total (firstHeld h g) ≤ 4096)) ⌝ }
-    ensures { λ _. ⌜ now (own .exit) ≡ laidOut (planFields h (ack .0)) (elementsOf (h .short) c (firstHeld h g) (afterFirst h g)) (now (own .entry)) ⌝ }
+// The first n elements laid out: broadcast Request of c, the first g requests granted, the Null, the others pending.
+fn lay_plan(
+    fields: Fields,
+    sids: &[u32; 64],
+    sizes: &[u32; 64],
+    short: u32,
+    c: u32,
+    g: usize,
+    n: usize,
+    own: &mut [u8],
+)
+    requires { ⌜ (g ≤ 64) × ((1 ≤ n) × ((n ≤ 66) × (c + sumFrom (now sizes) g (n - 1) 1 ≤ 4096))) ⌝ }
+    ensures { λ _. ⌜ now (own .exit) ≡ laidOut fields (planBy (now (sids .entry)) (now (sizes .entry)) short c g n) (now (own .entry)) ⌝ }
 {
-    let held_sids = h.sids;
-    let held_sizes = h.sizes;
-    let mut sids = [0u32; 66];
-    let mut uses = [0u32; 66];
+    // Until others are stored, each place holds the first element.
+    let mut ids = [0x3FFFu32; 66];
+    let mut uses = [1u32; 66];
     let mut offsets = [0u32; 66];
-    let mut offset = 0;
-    let n = h.held + 2;
-    let mut k = 0;
+    let mut offset = c;
+    let mut k = 1;
     while k < n {
-        let e = element_by(&held_sids, &held_sizes, h.short, g, k, offset);
-        sids[k as usize] = e.sid;
-        uses[k as usize] = e.iuc;
-        offsets[k as usize] = e.offset;
-        offset += length_by(&held_sizes, c, g, k);
+        ids[k] = sid_by(sids, g, k);
+        uses[k] = use_by(sizes, short, g, k);
+        offsets[k] = offset;
+        offset += length_by(sizes, g, k);
         k += 1;
     }
-    let n = n as usize;
-    lay_out(
-        fields_of(h, ack),
-        &sids[0..n],
-        &uses[0..n],
-        &offsets[0..n],
-        own,
-    );
+    lay_out(fields, &ids[0..n], &uses, &offsets, own);
 }
 
 // The MAP in an array of the headend's own; past its bytes there are zeros.
-pub(crate) fn make(h: Headend, ack: MiniSlot, c: u32, g: u32) -> [u8; 280]
+pub(crate) fn make(h: Headend, ack: MiniSlot, c: u32, g: usize) -> [u8; 280]
     requires { ⌜ (h .held ≤ 64) × ((g ≤ h .held) × (c + total (firstHeld h g) ≤ 4096)) ⌝ }
-    ensures { λ r. ⌜ take (24 + 4 * h .held) r ≡ messageOf (planFields h (ack .0)) (elementsOf (h .short) c (firstHeld h g) (afterFirst h g)) ⌝ }
+    ensures { λ r. ⌜ take (24 + 4 * h .held) r ≡ messageBy h (ack .0) c g ⌝ }
 {
+    let sids = h.sids;
+    let sizes = h.sizes;
+    let held = h.held as usize;
+    let n = held + 2;
     let mut own = [0u8; 280];
-    lay_plan(h, ack, c, g, &mut own);
+    lay_plan(fields_of(h, ack), &sids, &sizes, h.short, c, g, n, &mut own);
     own
 }

@@ -1,7 +1,7 @@
+use borrow.Author.Needs.{needs}
 use Prim.Native.Nat.{_-_, _≤_}
 use mathlib.Core.Path.{_≡_, refl}
 use lib.ListN.{getD}
-use borrow.Author.Needs.{needs}
 use Rattle.message.specs.Lists.{listed}
 use Rattle.issuing.specs.Issue.{placesOf}
 use Rattle.issuing.proofs.Issues.{moved-none, moved-more, moved-all}
@@ -9,28 +9,22 @@ use Rattle.issuing.proofs.issuing.moved_down.Statement.{statement}
 use Rattle.issuing.proofs.issuing.moved_down.Tie as tie
 
 abbrev Inv-loop : tie.InvT-loop
-Inv-loop numbers from held out₀ i₀ out i = (from ≤ i) × ((i ≤ held) × ((held ≤ 64) × (out ≡ placesOf (listed (λ j. getD numbers j 0) from (i - from)))))
+Inv-loop from held numbers out₀ i₀ out i = (from ≤ i) × ((i ≤ held) × ((held ≤ 64) × (out ≡ placesOf (listed (λ j. getD numbers j 0) from (i - from)))))
 
 abbrev μ-loop : tie.MeasureT-loop
-μ-loop numbers from held out₀ i₀ out i = held - i
+μ-loop from held numbers out₀ i₀ out i = held - i
 
 loop-holds : tie.Need-loop-holds Inv-loop μ-loop
 loop-holds c = (search needs, (search needs, (search needs, moved-none _ _ _ refl)))
 
-cast-out : tie.Need-cast-out Inv-loop μ-loop
-cast-out c = search needs
-
 mul-out : tie.Need-mul-out Inv-loop μ-loop
 mul-out c = search needs
 
-element-copy-out-out : tie.Need-element-copy-out-out Inv-loop μ-loop
-element-copy-out-out c = search needs
+array-read-out : tie.Need-array-read-out Inv-loop μ-loop
+array-read-out c = search needs
 
 sub-out : tie.Need-sub-out Inv-loop μ-loop
 sub-out c = search needs
-
-cast-out-2 : tie.Need-cast-out-2 Inv-loop μ-loop
-cast-out-2 c = search needs
 
 mul-out-2 : tie.Need-mul-out-2 Inv-loop μ-loop
 mul-out-2 c = search needs
@@ -45,7 +39,7 @@ loop-less : tie.Need-loop-less Inv-loop μ-loop
 loop-less c = search needs
 
 loop-again : tie.Need-loop-again Inv-loop μ-loop
-loop-again c = let l = c .before .before .loop in (search needs, (search needs, (search needs, moved-more (λ j. getD (c .before .before .before .args .numbers .now) j 0) _ _ (l .inv .1 .1 .0) _ _ (l .inv .1 .1 .1) (l .inv .0) (c .before .loop-test .taken))))
+loop-again c = let l = c .before .loop in (search needs, (search needs, (search needs, moved-more (λ j. getD (c .before .before .args .t1) j 0) _ _ (l .inv .1 .1 .0) _ _ (l .inv .1 .1 .1) (l .inv .0) (c .loop-test .taken))))
 
 returns : tie.Need-returns Inv-loop μ-loop
 returns c = let l = c .before .loop in moved-all _ _ _ (l .inv .1 .1 .0) _ _ (l .inv .1 .1 .1) (l .inv .1 .0) (c .loop-test .left)
@@ -57,11 +51,9 @@ moved-down-spec =
     Inv-loop
     μ-loop
     loop-holds
-    cast-out
     mul-out
-    element-copy-out-out
+    array-read-out
     sub-out
-    cast-out-2
     mul-out-2
     array-write-out
     add-i
