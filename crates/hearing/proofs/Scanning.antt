@@ -1,13 +1,13 @@
 -- Going through an accepted message: one law for each way on, over the definitions.
-use mathlib.Core.Path.{_≡_, refl, sym, _∙_}
-use mathlib.Core.Bool.{Bool, true, false, cond, not, _&&_}
+use mathlib.Core.Path.{_≡_, refl, sym, ap, _∙_}
+use mathlib.Core.Bool.{Bool, true, false, cond, not, _&&_, _||_}
 use mathlib.Core.List.{List, [], _∷_, _++_, map, map-append}
 use Prim.Native.Nat.{ℕ, zero, suc, _+_, _-_, _*_, _/_, _≤_, _<_}
 use native.Mathlib.Nat.{sub-zero, add-zero, zero-mul, suc-mul, div-zero, div-mul-le-self, mul-le-mul-right}
 use native.Mathlib.Omega.{arith}
 use lib.Dec.{leb, ltb, eqb}
 use lib.ListN.{length, length-append}
-use borrow.Author.Tests.{lt-ltb, le-ltb, le-leb, lt-leb, eq-eqb, ne-eqb, not-true, eqb-true}
+use borrow.Author.Tests.{lt-ltb, le-ltb, le-leb, lt-leb, eq-eqb, ne-eqb, not-true, not-false, eqb-true, ltb-true, ltb-false}
 use Rattle.slots.specs.declared.time.MiniSlot.{MiniSlot}
 use Rattle.slots.specs.Time.{movedOn}
 use Rattle.rules.specs.declared.element.Element.{Element}
@@ -19,7 +19,7 @@ use Rattle.message.specs.Lists.{listed, keep, isEmpty, gather}
 use Rattle.rules.specs.Rules.{granting}
 use Rattle.message.specs.Map.{Interval, intervals, pendingsTo}
 use Rattle.message.specs.Reading.{readOf, mapOf}
-use Rattle.message.proofs.Ways.{said, said-not}
+use Rattle.message.proofs.Ways.{said, said-not, or-none}
 use Rattle.message.proofs.Accepted.{accepted, keep-append, gather-append, intervalTo, interval-next, interval-end, after-null}
 use Rattle.station.specs.declared.record.Phase.{Phase}
 use Rattle.station.specs.declared.record.Phase.the-variants.{Deferring, Waiting}
@@ -89,21 +89,32 @@ module _ (start σ r : ℕ) (found : Found) where
     unfolding ownIn
     noted-other h = none-more (rw (ne-eqb (k .sid) σ h) (and-none (granting (k .iuc)))) (rw (ne-eqb (k .sid) σ h, and-none (eqb (k .iuc) 1)) refl)
 
-    pub noted-burst : (g : Bool) → k .sid ≡ σ → g ≡ granting (k .iuc) → g ≡ true → record { bursts = found .bursts + 1; own = found .own } ≡ foundIn start σ r found (k ∷ [])
+-- .. to the station's SID
+module _ (start r : ℕ) (found : Found) (σ iuc first length : ℕ) where
+  abbrev one : Interval
+  one = record { sid = σ; iuc = iuc; first = first; length = length }
+
+  unusable : (not (eqb iuc 1) || ltb length r) ≡ true → ownIn σ r one ≡ []
+  unfolding ownIn
+  unusable h = go (eqb iuc 1) refl
+    where
+      go : (b : Bool) → eqb iuc 1 ≡ b → ownIn σ r one ≡ []
+      go false e = rw e refl
+      go true e = rw (lt-leb r length (ltb-true length r (rw e at h)), and-none (eqb iuc 1 && eqb σ σ)) refl
+
+  module _ (g : Bool) (is : g ≡ granting iuc) where
+    pub noted-burst : g ≡ true → record { bursts = found .bursts + 1; own = found .own } ≡ foundIn start σ r found (one ∷ [])
     unfolding foundIn
-    noted-burst g h is t = rw (no-own (granting-not-1 (k .iuc) (sym is ∙ t)), first-none (found .own), sym is ∙ t, eq-eqb (k .sid) σ h) refl
+    noted-burst t = rw (no-own start σ r found one (granting-not-1 iuc (sym is ∙ t)), first-none (found .own), sym is ∙ t, eq-eqb σ σ refl) refl
 
-    pub noted-nothing : (g : Bool) → g ≡ granting (k .iuc) → g ≡ false → (k .iuc ≡ 1 → ⊥) → found ≡ foundIn start σ r found (k ∷ [])
-    noted-nothing g is f h = none-more (rw (sym is ∙ f) refl) (no-own (ne-eqb (k .iuc) 1 h))
+    pub noted-nothing : g ≡ false → (not (eqb iuc 1) || ltb length r) ≡ true → found ≡ foundIn start σ r found (one ∷ [])
+    noted-nothing f h = none-more start σ r found one (rw (sym is ∙ f) refl) (unusable h)
 
-    pub noted-short : (g : Bool) → g ≡ granting (k .iuc) → g ≡ false → k .length < r → found ≡ foundIn start σ r found (k ∷ [])
-    unfolding ownIn
-    noted-short g is f h = none-more (rw (sym is ∙ f) refl) (rw (lt-leb r (k .length) h, and-none (eqb (k .iuc) 1 && eqb (k .sid) σ)) refl)
-
-    pub noted-own : (g : Bool) (time : MiniSlot) (s : Sent) → k .sid ≡ σ → g ≡ granting (k .iuc) → g ≡ false → k .iuc ≡ 1 → r ≤ k .length → time .0 ≡ movedOn 32 start (k .first) → s ≡ firstOf (found .own) (time .0 ∷ []) →
-        record { bursts = found .bursts; own = s } ≡ foundIn start σ r found (k ∷ [])
+    pub noted-own : (time : MiniSlot) (s : Sent) → g ≡ false → (not (eqb iuc 1) || ltb length r) ≡ false → time .0 ≡ movedOn 32 start first → s ≡ firstOf (found .own) (time .0 ∷ []) → record { bursts = found .bursts; own = s } ≡ foundIn start σ r found (one ∷ [])
     unfolding foundIn ownIn
-    noted-own g time s h is f u l t e = rw (e, t, sym is ∙ f, eq-eqb (k .sid) σ h, eq-eqb (k .iuc) 1 u, le-leb r (k .length) l, add-zero (found .bursts)) refl
+    noted-own time s f h t e =
+        let both = or-none (not (eqb iuc 1)) (ltb length r) h in
+        rw (e, t, sym is ∙ f, eq-eqb σ σ refl, not-false (eqb iuc 1) (both .0), le-leb r length (ltb-false length r (both .1)), add-zero (found .bursts)) refl
 
 -- the opportunities of an interval, by their number
 pub contention-in : (r : ℕ) (k : Interval) → contentionIn r k ≡ spaced (k .first) (apart r (k .sid) (k .iuc)) (k .length / apart r (k .sid) (k .iuc))
@@ -213,13 +224,16 @@ module _ (s : List ℕ) (reading : Reading) (ok : readOf s ≡ Accepted reading)
     find-end h l left = sym (found-none start σ r found) ∙ (rw (rest-end i h l) at left)
 
     module _ (e : Element) (found' : Found) (more : i < reading .null) (is : e ≡ elementAt s i) (left : foundIn start σ r found (rest i) ≡ whole) where
+      go-on : (next : Element) (then : Found) → found' ≡ then → next ≡ elementAt s (i + 1) → then ≡ foundIn start σ r found (intervalTo e next ∷ []) → foundIn start σ r found' (rest (i + 1)) ≡ whole
+      go-on next then so is' f = rw (so ∙ f) (found-append start σ r found (intervalTo e next ∷ []) (rest (i + 1)) ∙ (rw (rest-next i more e next is is') at left))
+
       -- .. with an interval to the SID
-      pub find-next : (next : Element) (then : Found) → found' ≡ then → next ≡ elementAt s (i + 1) → then ≡ foundIn start σ r found (intervalTo e next ∷ []) → foundIn start σ r found' (rest (i + 1)) ≡ whole
-      find-next next then so is' f = rw (so ∙ f) (found-append start σ r found (intervalTo e next ∷ []) (rest (i + 1)) ∙ (rw (rest-next i more e next is is') at left))
+      pub find-next : (next : Element) (then : Found) → e .sid ≡ σ → found' ≡ then → next ≡ elementAt s (i + 1) → then ≡ foundIn start (e .sid) r found (intervalTo e next ∷ []) → foundIn start σ r found' (rest (i + 1)) ≡ whole
+      find-next next then own so is' f = go-on next then so is' (f ∙ ap (λ (n : ℕ). foundIn start n r found (intervalTo e next ∷ [])) own)
 
       -- .. and one to another SID, which adds nothing
       pub find-other : found' ≡ found → (e .sid ≡ σ → ⊥) → foundIn start σ r found' (rest (i + 1)) ≡ whole
-      find-other so other = find-next (elementAt s (i + 1)) found so refl (noted-other start σ r found (intervalTo e (elementAt s (i + 1))) other)
+      find-other so other = go-on (elementAt s (i + 1)) found so refl (noted-other start σ r found (intervalTo e (elementAt s (i + 1))) other)
 
   -- an opportunity's offset is small
   module _ (left step : ℕ) (e next : Element) (i : ℕ) (more : i < reading .null) (is : e ≡ elementAt s i) (then : next ≡ elementAt s (i + 1)) (few' : left < (next .offset - e .offset) / step) where
@@ -311,4 +325,4 @@ module _ (r sid iuc : ℕ) where
   unfolding apart
   step-data h k l m = rw (h, le-leb 0x3FF1 sid k, le-leb sid 0x3FFE l, le-ltb (sid - 0x3FF0) r m) refl
 
-pub ruleset scan-ways = (said, said-not, not-true, first-nothing, first-before, noted-other, noted-burst, noted-nothing, noted-short, noted-own, step-broadcast, step-request, step-other, step-below, step-above, step-small, step-data)
+pub ruleset scan-ways = (said, said-not, not-true, first-nothing, first-before, noted-burst, noted-nothing, noted-own, step-broadcast, step-request, step-other, step-below, step-above, step-small, step-data)

@@ -37,14 +37,11 @@ fn first_of(own: Sent, time: MiniSlot) -> Sent
     }
 }
 
-// One interval more.
-fn noted(found: Found, e: Element, length: u32, start: MiniSlot, sid: u32, r: u32) -> Found
+// One interval to the station's SID more.
+fn noted(found: Found, e: Element, length: u32, start: MiniSlot, r: u32) -> Found
     requires { ⌜ found .bursts < 4294967295 ⌝ }
-    ensures { λ now. ⌜ now ≡ foundIn (start .0) sid r found (record { sid = e .sid; iuc = e .iuc; first = e .offset; length = length } ∷ []) ⌝ }
+    ensures { λ now. ⌜ now ≡ foundIn (start .0) (e .sid) r found (record { sid = e .sid; iuc = e .iuc; first = e .offset; length = length } ∷ []) ⌝ }
 {
-    if e.sid != sid {
-        return found;
-    }
     let own = found.own;
     if granting(e.iuc) {
         return Found {
@@ -52,10 +49,7 @@ fn noted(found: Found, e: Element, length: u32, start: MiniSlot, sid: u32, r: u3
             own,
         };
     }
-    if e.iuc != 1 {
-        return found;
-    }
-    if length < r {
+    if (e.iuc != 1) | (length < r) {
         return found;
     }
     Found {
@@ -82,7 +76,7 @@ pub(crate) fn find(bytes: &[u8], reading: Reading, sid: u32, r: u32) -> Found
         let e = element_at(bytes, i as usize);
         if e.sid == sid {
             let next = element_at(bytes, (i + 1) as usize);
-            found = noted(found, e, next.offset - e.offset, start, sid, r);
+            found = noted(found, e, next.offset - e.offset, start, r);
         }
         i += 1;
     };

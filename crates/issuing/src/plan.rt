@@ -50,7 +50,7 @@ fn use_of(size: u32, short: u32) -> u32
     6
 }
 
-// The SID of the k-th element past the first.
+// The SID of element k, counted from 0; the first has no request, and is laid out beside these.
 fn sid_by(sids: &[u32; 64], g: usize, k: usize) -> u32
     requires { ⌜ (g ≤ 64) × ((1 ≤ k) × (k ≤ 65)) ⌝ }
     ensures { λ r. ⌜ r ≡ sidBy (now (sids .entry)) g k ⌝ }
@@ -119,7 +119,7 @@ fn lay_plan(
     requires { ⌜ (g ≤ 64) × ((1 ≤ n) × ((n ≤ 66) × (c + sumFrom (now sizes) g (n - 1) 1 ≤ 4096))) ⌝ }
     ensures { λ _. ⌜ now (own .exit) ≡ laidOut fields (planBy (now (sids .entry)) (now (sizes .entry)) short c g n) (now (own .entry)) ⌝ }
 {
-    // Until others are stored, each place holds the first element.
+    // The first element, in each place until another is stored there.
     let mut ids = [0x3FFFu32; 66];
     let mut uses = [1u32; 66];
     let mut offsets = [0u32; 66];

@@ -61,7 +61,7 @@ loop-again c =
       search needs,
       ⊎-elim (λ w. search find-few) (λ w. search find-same) (c .if2 .came),
       ⊎-elim
-          (λ w. find-next _ _ ok _ _ _ _ _ _ _ _ (search needs) is left _ _ (w .5) (w .1 .ensures) (w .4 .ensures))
+          (λ w. find-next _ _ ok _ _ _ _ _ _ _ _ (search needs) is left _ _ (w .0 .taken) (w .5) (w .1 .ensures) (w .4 .ensures))
           (λ w. find-other _ _ ok _ _ _ _ _ _ _ _ (search needs) is left (w .1) (w .0 .left))
           (c .if2 .came),
     )

@@ -3,23 +3,17 @@ use borrow.Author.Needs.{needs}
 use Rattle.hearing.proofs.opportunity.noted.Statement.{statement}
 use Rattle.hearing.proofs.opportunity.noted.Tie as tie
 
-returns : tie.Need-returns
-returns c = search scan-ways
-
 granting-requires : tie.Need-granting-requires
 granting-requires c κs = search needs
 
-add-t10 : tie.Need-add-t10
-add-t10 c = search needs
+add-t8 : tie.Need-add-t8
+add-t8 c = search needs
+
+returns : tie.Need-returns
+returns c = search scan-ways
 
 returns-2 : tie.Need-returns-2
 returns-2 c = search scan-ways
-
-returns-3 : tie.Need-returns-3
-returns-3 c = search scan-ways
-
-returns-4 : tie.Need-returns-4
-returns-4 c = search scan-ways
 
 moved-on-requires : tie.Need-moved-on-requires
 moved-on-requires c κs = search needs
@@ -27,19 +21,8 @@ moved-on-requires c κs = search needs
 first-of-requires : tie.Need-first-of-requires
 first-of-requires c κs = search needs
 
-returns-5 : tie.Need-returns-5
-returns-5 c = search scan-ways
+returns-3 : tie.Need-returns-3
+returns-3 c = search scan-ways
 
 pub noted-spec : {M : Type 1} → statement M
-noted-spec =
-    tie.close
-    (tie.spec
-    returns
-    granting-requires
-    add-t10
-    returns-2
-    returns-3
-    returns-4
-    moved-on-requires
-    first-of-requires
-    returns-5)
+noted-spec = tie.close (tie.spec granting-requires add-t8 returns returns-2 moved-on-requires first-of-requires returns-3)
