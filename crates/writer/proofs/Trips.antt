@@ -24,7 +24,7 @@ use Rattle.writer.proofs.Stores.{length-header, length-message, Writes,
 use Rattle.message.proofs.Accepted.{Passes, whole-step, accepted}
 use Rattle.rules.specs.Sids.{within, sidAllowed}
 use Rattle.rules.specs.Backoffs.{badBackoffs}
-use Rattle.message.specs.Fields.{fieldsOf, countOf}
+use Rattle.message.specs.Fields.{fieldsOf, countOf, reservedOf}
 use contract.Lifetimes
 use borrow.Fn.World
 use borrow.Fn.Kinds as Kinds'
@@ -280,10 +280,10 @@ module _ (s : List ℕ) (bytes : Bytes s) where
         rw (length-listed (elementIn s) 0 n, tail, header-again) (sym split)
 
     -- "writing what was read gives the same bytes exactly when reserved was 0"
-    pub same-bytes : getD s 3 0 ≡ 0 → written ≡ s
+    pub same-bytes : reservedOf s ≡ 0 → written ≡ s
     same-bytes zero' = writes-again ∙ (rw zero' at (set-getD s 3 0))
 
-    pub only-then : written ≡ s → getD s 3 0 ≡ 0
+    pub only-then : written ≡ s → reservedOf s ≡ 0
     only-then e = ap (λ (l : List ℕ). getD l 3 0) (sym (sym writes-again ∙ e)) ∙ getD-set-same s 3 0 0 (omega arith)
 
 -- what was written reads back, and how much of the bytes it is
@@ -322,8 +322,8 @@ module _ (κs : Lifetimes.Lfts 4) (a : World.ArgsD write'.signature κs) (r : Wo
     again : (take size (now (s .1 .1 .1 .1 .0)) ≡ written (now (b .0)) bytes (countOf (now (b .0))) refl (accepted (now (b .0)) reading (sym found ∙ accepts) .sound .fits))
     again = wrote-message (a .0) es (now (a .1 .1 .1 .1 .0)) (now (s .1 .1 .1 .1 .0)) size r (wrote .0) (wrote .1) is ∙ rw (fields, elements) refl
 
-    pub write-after-read : getD (now (b .0)) 3 0 ≡ 0 → take size (now (s .1 .1 .1 .1 .0)) ≡ now (b .0)
+    pub write-after-read : reservedOf (now (b .0)) ≡ 0 → take size (now (s .1 .1 .1 .1 .0)) ≡ now (b .0)
     write-after-read zero' = again ∙ same-bytes (now (b .0)) bytes (countOf (now (b .0))) refl (accepted (now (b .0)) reading (sym found ∙ accepts) .sound .fits) zero'
 
-    pub reserved-zero : take size (now (s .1 .1 .1 .1 .0)) ≡ now (b .0) → getD (now (b .0)) 3 0 ≡ 0
+    pub reserved-zero : take size (now (s .1 .1 .1 .1 .0)) ≡ now (b .0) → reservedOf (now (b .0)) ≡ 0
     reserved-zero e = only-then (now (b .0)) bytes (countOf (now (b .0))) refl (accepted (now (b .0)) reading (sym found ∙ accepts) .sound .fits) (sym again ∙ e)
