@@ -8,7 +8,7 @@ use Rattle.rules.specs.declared.element.Element.{Element}
 use Rattle.rules.proofs.Worked.{element}
 use Rattle.message.specs.Map.{Map, intervals, afterNull, mapLength, grantsTo, pendingsTo}
 use Rattle.station.specs.declared.record.Phase.{Phase}
-use Rattle.station.specs.declared.record.Phase.the-variants.{Idle, Wanting, Deferring, Waiting}
+use Rattle.station.specs.declared.record.Phase.the-variants.{Idle, Deferring}
 use Rattle.station.specs.declared.record.Remembered.the-variants as remembered
 use Rattle.station.specs.declared.record.Station.{Station}
 use Rattle.backoff.specs.Steps.{lost, acknowledged, deferred}

@@ -20,7 +20,6 @@ use Rattle.message.specs.Element.{wordAt, elementAt}
 use Rattle.rules.specs.Backoffs.{badBackoffs}
 use Rattle.message.specs.Fields.{fieldsOf, countOf}
 use Rattle.rules.specs.Rules.{misordered, unknownUse, wrongSid, misplaced, tooFar, grantTooLong, faultOf, nothingYet, advanced, endedAt, walked}
-use Rattle.rules.specs.Refusals.{refusal}
 use Rattle.message.specs.Lists.{listed}
 use Rattle.message.specs.Reading.{headerFault, mapOf, verdictOf, readOf}
 use Rattle.message.proofs.Ways.{or-none}
