@@ -104,9 +104,7 @@ impl Session {
     }
 
     fn station(&mut self, numbers: &[u32]) -> Option<String> {
-        let &[place, sid, channel, count, r] = numbers else {
-            return None;
-        };
+        let [place, sid, channel, count, r] = exactly(numbers)?;
         let station = self.stations.get_mut(place as usize)?;
         match Station::new(sid, byte(channel)?, byte(count)?, r) {
             Ok(new) => *station = new,
@@ -123,13 +121,13 @@ impl Session {
     }
 
     fn show(&mut self, numbers: &[u32]) -> Option<String> {
-        let &[place] = numbers else { return None };
+        let [place] = exactly(numbers)?;
         let station = self.stations.get(place as usize)?;
         Some(format!("station {}", print::station(station)))
     }
 
     fn offer(&mut self, numbers: &[u32]) -> Option<String> {
-        let &[place, size] = numbers else { return None };
+        let [place, size] = exactly(numbers)?;
         let station = self.stations.get_mut(place as usize)?;
         let word = match station.offer(size) {
             Ok(()) => "offered".to_string(),
@@ -139,9 +137,7 @@ impl Session {
     }
 
     fn hear(&mut self, numbers: &[u32], bytes: &[u8]) -> Option<String> {
-        let &[place, present, draw] = numbers else {
-            return None;
-        };
+        let [place, present, draw] = exactly(numbers)?;
         let station = self.stations.get_mut(place as usize)?;
         let draw = u16::try_from(draw).ok()?;
         let word = match station.hear(bytes, present, draw) {
@@ -155,7 +151,7 @@ impl Session {
     }
 
     fn table(&mut self, numbers: &[u32], bytes: &[u8]) -> Option<String> {
-        let (&[first, count, present, places], draws) = numbers.split_first_chunk()?;
+        let ([first, count, present, places], draws) = leading(numbers)?;
         if draws.len() > STATIONS || places as usize > STATIONS {
             return None;
         }
@@ -170,9 +166,7 @@ impl Session {
     }
 
     fn headend(&mut self, numbers: &[u32]) -> Option<String> {
-        let &[place, next, channel, count, rs, re, ds, de, short] = numbers else {
-            return None;
-        };
+        let [place, next, channel, count, rs, re, ds, de, short] = exactly(numbers)?;
         let headend = self.headends.get_mut(place as usize)?;
         let backoffs = four_bytes([rs, re, ds, de])?;
         match Headend::new(next, byte(channel)?, byte(count)?, backoffs, short) {
@@ -190,15 +184,13 @@ impl Session {
     }
 
     fn held(&mut self, numbers: &[u32]) -> Option<String> {
-        let &[place] = numbers else { return None };
+        let [place] = exactly(numbers)?;
         let headend = self.headends.get(place as usize)?;
         Some(format!("headend {}", print::headend(headend)))
     }
 
     fn request(&mut self, numbers: &[u32]) -> Option<String> {
-        let &[place, sid, size, first] = numbers else {
-            return None;
-        };
+        let [place, sid, size, first] = exactly(numbers)?;
         let headend = self.headends.get_mut(place as usize)?;
         let word = match headend.request(sid, size, first) {
             Ok(()) => "taken".to_string(),
@@ -208,9 +200,7 @@ impl Session {
     }
 
     fn issue(&mut self, numbers: &[u32]) -> Option<String> {
-        let &[place, ack, c, budget, room] = numbers else {
-            return None;
-        };
+        let [place, ack, c, budget, room] = exactly(numbers)?;
         let headend = self.headends.get_mut(place as usize)?;
         let mut lent = lend(room)?;
         let word = match headend.issue(ack, c, budget, &mut lent) {
@@ -223,7 +213,7 @@ impl Session {
 }
 
 fn read(numbers: &[u32], bytes: &[u8]) -> Option<String> {
-    let &[] = numbers else { return None };
+    let [] = exactly(numbers)?;
     let map = match message::read(bytes) {
         Ok(map) => map,
         Err(refusal) => return Some(print::refused(refusal)),
@@ -236,12 +226,12 @@ fn read(numbers: &[u32], bytes: &[u8]) -> Option<String> {
 }
 
 fn after(numbers: &[u32], bytes: &[u8]) -> Option<String> {
-    let &[] = numbers else { return None };
+    let [] = exactly(numbers)?;
     Some(print::hex(message::after(bytes)))
 }
 
 fn grant(numbers: &[u32], bytes: &[u8]) -> Option<String> {
-    let &[sid, k] = numbers else { return None };
+    let [sid, k] = exactly(numbers)?;
     Some(match message::grant(bytes, sid, k) {
         Ok(Some((first, length))) => format!("grant {first} {length}"),
         Ok(None) => "none".to_string(),
@@ -250,8 +240,7 @@ fn grant(numbers: &[u32], bytes: &[u8]) -> Option<String> {
 }
 
 fn write(numbers: &[u32]) -> Option<String> {
-    let (&[room, channel, count, start, ack, rs, re, ds, de], triples) =
-        numbers.split_first_chunk()?;
+    let ([room, channel, count, start, ack, rs, re, ds, de], triples) = leading(numbers)?;
     let triples = in_threes(triples, 241)?;
     let elements = triples.iter().map(|&[s, u, o]| Element::new(s, u, o));
     let map = Map {
@@ -271,7 +260,7 @@ fn write(numbers: &[u32]) -> Option<String> {
 }
 
 fn begins(numbers: &[u32]) -> Option<String> {
-    let &[slot, m] = numbers else { return None };
+    let [slot, m] = exactly(numbers)?;
     Some(match time::begins(slot, m) {
         Ok(timestamp) => format!("begins {timestamp}"),
         Err(refusal) => print::refused(refusal),
@@ -279,13 +268,13 @@ fn begins(numbers: &[u32]) -> Option<String> {
 }
 
 fn earlier(numbers: &[u32]) -> Option<String> {
-    let &[a, b] = numbers else { return None };
+    let [a, b] = exactly(numbers)?;
     let answer = if time::earlier(a, b) { "yes" } else { "no" };
     Some(answer.to_string())
 }
 
 fn span(numbers: &[u32]) -> Option<String> {
-    if !numbers.len().is_multiple_of(2) || numbers.len() > 2 * 300 {
+    if numbers.len() % 2 != 0 || numbers.len() > 2 * 300 {
         return None;
     }
     let pairs = numbers.chunks(2).map(|pair| (pair[0], pair[1]));
@@ -295,6 +284,17 @@ fn span(numbers: &[u32]) -> Option<String> {
         Some((from, last)) => format!("span {from} {last} {left}"),
         None => format!("span none {left}"),
     })
+}
+
+/// The numbers, where there are N of them.
+fn exactly<const N: usize>(numbers: &[u32]) -> Option<[u32; N]> {
+    numbers.try_into().ok()
+}
+
+/// The first N numbers, and the rest.
+fn leading<const N: usize>(numbers: &[u32]) -> Option<([u32; N], &[u32])> {
+    let first = exactly(numbers.get(..N)?)?;
+    Some((first, &numbers[N..]))
 }
 
 fn byte(number: u32) -> Option<u8> {
@@ -311,7 +311,7 @@ fn lend(room: u32) -> Option<Vec<u8>> {
 }
 
 fn in_threes(numbers: &[u32], most: usize) -> Option<Vec<[u32; 3]>> {
-    if !numbers.len().is_multiple_of(3) || numbers.len() > 3 * most {
+    if numbers.len() % 3 != 0 || numbers.len() > 3 * most {
         return None;
     }
     let threes = numbers.chunks(3);
@@ -319,7 +319,7 @@ fn in_threes(numbers: &[u32], most: usize) -> Option<Vec<[u32; 3]>> {
 }
 
 fn station_from(fields: &[u32]) -> Option<Station> {
-    let (&[sid, channel, count, r, known, end], state) = fields.split_first_chunk()?;
+    let ([sid, channel, count, r, known, end], state) = leading(fields)?;
     let end = match known {
         0 => None,
         1 => Some(end),
@@ -336,9 +336,7 @@ fn station_from(fields: &[u32]) -> Option<Station> {
 }
 
 fn state_from(fields: &[u32]) -> Option<State> {
-    let &[state, size, exponent, left, retries, time] = fields else {
-        return None;
-    };
+    let [state, size, exponent, left, retries, time] = exactly(fields)?;
     match state {
         0 => Some(State::Idle),
         1 => Some(State::Wanting { size }),
@@ -359,8 +357,7 @@ fn state_from(fields: &[u32]) -> Option<State> {
 }
 
 fn headend_from(fields: &[u32]) -> Option<Headend> {
-    let (&[next, ack, channel, count, rs, re, ds, de, short, held], triples) =
-        fields.split_first_chunk()?;
+    let ([next, ack, channel, count, rs, re, ds, de, short, held], triples) = leading(fields)?;
     let mut places = [Request::default(); MOST_HELD];
     for (place, [sid, size, first]) in places.iter_mut().zip(in_threes(triples, MOST_HELD)?) {
         *place = Request { sid, size, first };

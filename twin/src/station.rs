@@ -129,7 +129,7 @@ impl Station {
             return refuse(DESCRIPTION);
         }
         let stale = |end| ahead(end, map.start) >= 1 << 31;
-        if self.end.is_some_and(stale) {
+        if self.end.map_or(false, stale) {
             return refuse(STALE);
         }
         if !earlier(present, map.start) {
@@ -166,14 +166,14 @@ impl Station {
 
     /// Step 4: the first mini-slot of the request sent, if any.
     fn contend(&mut self, map: &Map) -> Option<u32> {
-        let State::Deferring {
-            size,
-            exponent,
-            left,
-            retries,
-        } = self.state
-        else {
-            return None;
+        let (size, exponent, left, retries) = match self.state {
+            State::Deferring {
+                size,
+                exponent,
+                left,
+                retries,
+            } => (size, exponent, left, retries),
+            _ => return None,
         };
         let contention = contention(map, self.r);
         let own = own_request(map, self.sid, self.r);

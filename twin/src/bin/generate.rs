@@ -6,9 +6,12 @@ use std::process::ExitCode;
 fn main() -> ExitCode {
     let arguments: Vec<String> = std::env::args().skip(1).collect();
     let numbers: Vec<u64> = arguments.iter().flat_map(|a| a.parse()).collect();
-    let (&[seed, count], 2) = (&numbers[..], arguments.len()) else {
-        eprintln!("usage: generate SEED COUNT");
-        return ExitCode::from(2);
+    let (seed, count) = match (&numbers[..], arguments.len()) {
+        (&[seed, count], 2) => (seed, count),
+        _ => {
+            eprintln!("usage: generate SEED COUNT");
+            return ExitCode::from(2);
+        }
     };
     let script = twin::generate::script(seed, count as usize);
     match io::stdout().write_all(script.as_bytes()) {

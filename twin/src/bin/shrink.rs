@@ -66,7 +66,7 @@ impl Search {
     /// Drops runs of lines, halves first and single lines last, until no
     /// line can go.
     fn drop_lines(&self, mut lines: Vec<String>) -> Vec<String> {
-        let mut run = lines.len().div_ceil(2);
+        let mut run = (lines.len() + 1) / 2;
         while run > 0 {
             let dropped = self.drop_runs(&mut lines, run);
             if run > 1 || !dropped {
@@ -122,13 +122,19 @@ fn content(before: &[String]) -> Vec<String> {
 
 fn main() -> ExitCode {
     let arguments: Vec<String> = std::env::args().skip(1).collect();
-    let [script, replay] = &arguments[..] else {
-        eprintln!("usage: shrink SCRIPT REPLAY");
-        return ExitCode::from(2);
+    let (script, replay) = match &arguments[..] {
+        [script, replay] => (script, replay),
+        _ => {
+            eprintln!("usage: shrink SCRIPT REPLAY");
+            return ExitCode::from(2);
+        }
     };
-    let Ok(whole) = fs::read_to_string(script) else {
-        eprintln!("shrink: {script} can't be read");
-        return ExitCode::from(2);
+    let whole = match fs::read_to_string(script) {
+        Ok(whole) => whole,
+        Err(_) => {
+            eprintln!("shrink: {script} can't be read");
+            return ExitCode::from(2);
+        }
     };
     let search = Search {
         replay: replay.clone(),

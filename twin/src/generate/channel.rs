@@ -31,8 +31,9 @@ impl Generator {
             }
         }
         let start = self.headend(place).next;
-        let Some(bytes) = self.issued(place) else {
-            return;
+        let bytes = match self.issued(place) {
+            Some(bytes) => bytes,
+            None => return,
         };
         let present = start.wrapping_sub(self.random.between(1, 3));
         for station in first..first + count {
@@ -62,12 +63,11 @@ impl Generator {
     /// A request sent in this MAP reaches the headend, or is lost.
     fn deliver(&mut self, place: u32, station: u32, start: u32) {
         let record = self.station(station);
-        let State::Waiting { size, time, .. } = record.state else {
-            return;
-        };
-        let sent_now = time.wrapping_sub(start) < 4_096;
-        if sent_now && self.random.chance(75) {
-            self.plain("request", &[place, record.sid, size, time]);
+        if let State::Waiting { size, time, .. } = record.state {
+            let sent_now = time.wrapping_sub(start) < 4_096;
+            if sent_now && self.random.chance(75) {
+                self.plain("request", &[place, record.sid, size, time]);
+            }
         }
     }
 }

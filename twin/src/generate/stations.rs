@@ -234,8 +234,9 @@ impl Generator {
 }
 
 fn start_for(random: &mut Random, station: &Station) -> u32 {
-    let Some(end) = station.end else {
-        return random.moment();
+    let end = match station.end {
+        Some(end) => end,
+        None => return random.moment(),
     };
     let ahead = match random.between(0, 39) {
         0 => HALF,
