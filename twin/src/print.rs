@@ -1,6 +1,6 @@
 //! How stations, headends, bytes and refusals print.
 
-use crate::headend::Headend;
+use crate::headend::{Headend, Request};
 use crate::refusal::Refusal;
 use crate::station::{State, Station};
 
@@ -50,6 +50,11 @@ pub fn station(station: &Station) -> String {
 
 /// NEXT ACK CHANNEL COUNT RS RE DS DE SHORT HELD, then SID SIZE FIRST each
 pub fn headend(headend: &Headend) -> String {
+    places(headend, headend.requests())
+}
+
+/// The same with the places given, spare ones too.
+pub fn places(headend: &Headend, places: &[Request]) -> String {
     let mut fields = vec![
         headend.next,
         headend.ack,
@@ -58,7 +63,7 @@ pub fn headend(headend: &Headend) -> String {
     ];
     fields.extend(headend.backoffs.map(u32::from));
     fields.extend([headend.short, headend.held]);
-    for request in headend.requests() {
+    for request in places {
         fields.extend([request.sid, request.size, request.first]);
     }
     numbers(&fields)

@@ -184,9 +184,14 @@ impl Session {
     }
 
     fn held(&mut self, numbers: &[u32]) -> Option<String> {
-        let [place] = exactly(numbers)?;
+        let (&place, asked) = numbers.split_first()?;
         let headend = self.headends.get(place as usize)?;
-        Some(format!("headend {}", print::headend(headend)))
+        let printed = match asked {
+            [] => print::headend(headend),
+            &[places] => print::places(headend, headend.places.get(..places as usize)?),
+            _ => return None,
+        };
+        Some(format!("headend {printed}"))
     }
 
     fn request(&mut self, numbers: &[u32]) -> Option<String> {

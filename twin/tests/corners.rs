@@ -308,6 +308,26 @@ fn grants_are_a_prefix() {
 }
 
 #[test]
+fn spare_places() {
+    let fresh = "headend 0 1000 1 2 0 0 0 0 0";
+    let zeros = " 0".repeat(192);
+    let all = last(&[fresh, "held 0 64"]);
+    assert_eq!(all, format!("headend 1000 1000 1 2 0 0 0 0 0 0{zeros}"));
+    let held = "holding 0 1000 950 1 2 0 4 2 6 10 2 5 9 960 6 10 961 7 11 962 8 12 963";
+    let request = "request 0 9 13 970";
+    let taken = "headend 1000 950 1 2 0 4 2 6 10 3 5 9 960 6 10 961 9 13 970";
+    assert_eq!(last(&[held, request, "held 0"]), taken);
+    let spare = last(&[held, request, "held 0 4"]);
+    assert_eq!(spare, format!("{taken} 8 12 963"));
+    let after = last(&[held, request, "issue 0 970 5 14 36", "held 0 4"]);
+    let rest = "headend 1014 970 1 2 0 4 2 6 10 2 6 10 961 9 13 970 0 0 0 0 0 0";
+    assert_eq!(after, rest);
+    assert_eq!(last(&[held, "held 0 1"]).split(' ').count(), 14);
+    assert_eq!(last(&[held, "held 0 65"]), "bad");
+    assert_eq!(last(&[held, "held 0 1 1"]), "bad");
+}
+
+#[test]
 fn lines_of_other_forms() {
     for line in [
         "Read x",

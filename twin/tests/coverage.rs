@@ -21,6 +21,7 @@ fn outcomes(script: &str) -> BTreeSet<String> {
                 words[words.len() - 1] == "0"
             ),
             "table" => format!("table {}", words[1]),
+            "headend" if word == "held" => places(&words),
             token if token.starts_with('x') => format!("bytes {}", token != "x"),
             other => other.to_string(),
         };
@@ -31,6 +32,16 @@ fn outcomes(script: &str) -> BTreeSet<String> {
         }
     }
     seen
+}
+
+/// Whether places behind those held are shown, and whether one of them has
+/// a content.
+fn places(words: &[&str]) -> String {
+    let held: usize = words[10].parse().unwrap_or(0);
+    match words.get(11 + 3 * held..) {
+        None | Some([]) => "headend".to_string(),
+        Some(spare) => format!("spare {}", spare.iter().any(|&word| word != "0")),
+    }
 }
 
 const REFUSALS: [(&str, &str); 10] = [
@@ -65,7 +76,7 @@ const OTHERS: [(&str, &str); 18] = [
     ("table", "table 0,table 17"),
     ("headend", "headend"),
     ("holding", "headend"),
-    ("held", "headend"),
+    ("held", "headend,spare false,spare true"),
     ("request", "taken"),
     ("issue", "issued"),
 ];

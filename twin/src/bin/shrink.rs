@@ -100,7 +100,7 @@ fn text(lines: &[String]) -> String {
 /// Lines that give every place the content it has after `before`.
 fn content(before: &[String]) -> Vec<String> {
     let shows = (0..40).map(|i| format!("show {i}"));
-    let helds = (0..4).map(|i| format!("held {i}"));
+    let helds = (0..4).map(|i| format!("held {i} 64"));
     let asked: Vec<String> = shows.chain(helds).collect();
     let mut all = before.to_vec();
     all.extend(asked.iter().cloned());

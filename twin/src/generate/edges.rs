@@ -29,7 +29,7 @@ const SIDS: [(u32, &[u32]); 8] = [
 ];
 
 /// Each just outside what its line takes, or just inside.
-const LINES: [&str; 54] = [
+const LINES: [&str; 60] = [
     "earlier 4294967296 1",
     "earlier 4294967295 0",
     "earlier 9999999999 0",
@@ -60,6 +60,7 @@ const LINES: [&str; 54] = [
     "table 0 41 0 40 x",
     "table 39 1 0 1 0 x",
     "table 39 2 0 2 0 0 x",
+    "table 40 0 0 0 x",
     "table 4294967295 1 0 1 0 x",
     "table 0 1 0 40 65535 x",
     "table 0 1 0 41 0 x",
@@ -78,6 +79,11 @@ const LINES: [&str; 54] = [
     "holding 3 0 0 1 2 0 0 0 255 0 4294967295",
     "held 3",
     "held 4",
+    "held 3 0",
+    "held 3 64",
+    "held 3 65",
+    "held 4 0",
+    "held 3 1 1",
     "request 4 5 9 0",
     "issue 4 0 1 1 24",
     "issue 3 0 1 1 1000",

@@ -28,6 +28,14 @@ impl Generator {
         self.plain("held", &[place]);
     }
 
+    /// The places, spare ones too, up to a number about that of those held.
+    fn places_call(&mut self, place: u32) {
+        let held = self.headend(place).held.min(64);
+        let next = (held + 1).min(64);
+        let places = self.random.pick(&[0, held, next, next, 64]);
+        self.plain("held", &[place, places]);
+    }
+
     pub fn headend_call(&mut self, place: u32, next: u32, channel: u32, backoffs: [u8; 4]) {
         let any = self.random.any();
         let short = self
@@ -50,6 +58,7 @@ impl Generator {
             }
         }
         self.issue_call(place);
+        self.places_call(place);
     }
 
     /// SIDs from a small pool, so that some are held already.
@@ -149,8 +158,10 @@ impl Generator {
         for _ in 0..4 {
             self.late_request(place);
         }
+        self.places_call(place);
         self.issue_call(place);
         self.request_call(place);
+        self.places_call(place);
     }
 
     fn holding_call(&mut self, place: u32, wanted: u32) {

@@ -53,6 +53,7 @@ impl Generator {
         self.table_outcomes();
         self.request_outcomes();
         self.issue_outcomes();
+        self.spare_outcomes();
         for word in WORDS {
             self.call(word.to_string());
         }
@@ -207,5 +208,17 @@ impl Generator {
         ] {
             self.plain("issue", &[0, ack, c, budget, room]);
         }
+    }
+
+    /// Two held of four: a request takes the third place, and an issue
+    /// leaves zeros behind what stays held.
+    fn spare_outcomes(&mut self) {
+        let triples = [5, 9, 960, 6, 10, 961, 7, 11, 962, 8, 12, 963];
+        self.hold(6, 2, &triples);
+        self.plain("held", &[0, 4]);
+        self.plain("request", &[0, 9, 13, 970]);
+        self.plain("held", &[0, 5]);
+        self.plain("issue", &[0, 970, 5, 14, 36]);
+        self.plain("held", &[0, 64]);
     }
 }
