@@ -1,0 +1,4 @@
+pub mod Putting
+pub mod Numerals
+pub mod Within
+pub mod Unique
