@@ -7,30 +7,15 @@ use native.Mathlib.Omega.{arith}
 use lib.Dec.{ltb, lit<}
 use borrow.Author.Tests.{ltb-true}
 use lib.ListN.{take}
-use Rattle.slots.specs.Time.{ahead, half, earlier}
-use Rattle.message.specs.Lists.{listed}
-use Rattle.rules.specs.Sids.{sidAllowed}
-use Rattle.message.specs.Element.{wordAt}
-use Rattle.rules.specs.Backoffs.{badBackoffs}
-use Rattle.message.specs.Fields.{fieldsOf}
-use Rattle.rules.specs.Rules.{misordered, misplaced, faultOf, advanced, endedAt, walked}
-use Rattle.message.specs.Map.{intervals, mapLength, afterNull, grantsTo, pendingsTo, endOf}
-use Rattle.message.specs.Reading.{headerFault, readOf}
-use Rattle.writer.specs.Writing.{bytesOf, headerOf, elementsOf, messageOf}
+use Rattle.slots.specs.Time.{ahead, half}
+use Rattle.message.specs.Map.{endOf}
 use Rattle.station.specs.declared.record.Phase.the-variants.{Idle, Waiting}
-use Rattle.station.specs.Records as station
 use Rattle.station.specs.Offering as offering
-use Rattle.backoff.specs.Steps.{lost, acknowledged, deferred}
-use Rattle.hearing.specs.Opportunities.{spaced, contentionIn, ownIn, contention, own}
-use Rattle.hearing.specs.Steps.{passing, offeredOwn, sending, waitingSince, sentBy}
-use Rattle.hearing.specs.Steps as steps
-use Rattle.hearing.specs.Hearing.{stale, hearFault, readyPhase, quietPhase, phaseAfter, requestIn, stationAfter, hearing, hearOf}
 use Rattle.headend.specs.Requests.{Request, heldOf}
 use Rattle.headend.specs.Records as records
-use Rattle.issuing.specs.Plan as plan
-use Rattle.issuing.specs.Issue.{planOf, callFault, issueFault, movedTo, issuedFrom, issueOf}
-use Rattle.channel.specs.History.{Issue, mapIn, Sending, State, stationAt, Event, Offer, Issue', Hear, Deliver, Lose, step, after}
+use Rattle.channel.specs.History.{Issue, mapIn, Sending, State, stationAt, Event, Offer, Issue', Hear, Deliver, Lose, after}
 use Rattle.channel.specs.Claims.{FreshStation, Fresh, Within, Safe}
+use Rattle.channel.proofs.Computing.{rules}
 use Rattle.channel.proofs.Keeping.{and-left, and-right, each-cons}
 use Rattle.channel.proofs.Spanning.{safe}
 
@@ -80,7 +65,7 @@ pub computed :
     × (stationAt (after collided start) 0 .phase ≡ Idle)
     × (stationAt (after collided start) 1 .phase ≡ Idle)
     × (fitting 4294967290 (after collided start .issues) ≡ true)
-unfolding fitting after step ahead earlier listed sidAllowed wordAt fieldsOf badBackoffs misordered misplaced faultOf advanced endedAt walked intervals mapLength afterNull grantsTo pendingsTo headerFault readOf bytesOf headerOf elementsOf messageOf station.badPhase station.recordFault spaced contentionIn ownIn contention own steps.granted lost acknowledged deferred passing offeredOwn sending waitingSince sentBy stale hearFault readyPhase quietPhase phaseAfter requestIn stationAfter hearing hearOf offering.idle offering.offerFault offering.offerOf heldOf records.withPlaces records.any records.recordFault records.requestFault records.joined records.requestOf plan.granted plan.pending plan.total plan.grants plan.pendings plan.elementsOf planOf callFault issueFault movedTo issuedFrom issueOf
+unfolding fitting rules
 computed = (refl, refl, refl, refl, refl, refl, refl, refl, refl, refl, refl, refl, refl)
 
 within : (s : State) (E : ℕ) → fitting E (s .issues) ≡ true → Within s E

@@ -14,6 +14,7 @@ pub mod Steps
 pub mod Start
 pub mod Theorem
 pub mod Spanning
+pub mod Computing
 pub mod Histories
 pub mod Sharp
 pub mod Numbers

@@ -5,33 +5,17 @@ use mathlib.Core.List.{List, [], _∷_, List·Memᴰ·head, List·Memᴰ·tail}
 use Prim.Native.Nat.{ℕ, zero, suc, _<_}
 use lib.ListN.{length, getD, set}
 use lib.Dec.{lit<}
-use Rattle.message.specs.Map.{intervals, mapLength, afterNull, grantsTo, pendingsTo}
-use Rattle.message.specs.Reading.{mapOf, headerFault, readOf}
+use Rattle.message.specs.Reading.{mapOf}
 use Rattle.station.specs.declared.record.Station.{Station}
 use native.Mathlib.Omega.{arith}
-use Rattle.slots.specs.Time.{ahead, earlier}
-use Rattle.message.specs.Lists.{listed}
-use Rattle.rules.specs.Sids.{sidAllowed}
-use Rattle.message.specs.Element.{wordAt}
-use Rattle.rules.specs.Backoffs.{badBackoffs}
-use Rattle.message.specs.Fields.{fieldsOf}
-use Rattle.rules.specs.Rules.{misordered, misplaced, faultOf, advanced, endedAt, walked}
-use Rattle.writer.specs.Writing as writing
 use Rattle.station.specs.declared.record.Phase.{Phase}
 use Rattle.station.specs.declared.record.Phase.the-variants.{Idle, Wanting, Deferring, Waiting}
-use Rattle.station.specs.Records as station
 use Rattle.station.specs.Offering as offering
-use Rattle.backoff.specs.Steps.{lost, acknowledged, deferred}
-use Rattle.hearing.specs.Opportunities.{spaced, contentionIn, ownIn, contention, own}
-use Rattle.hearing.specs.Steps.{passing, offeredOwn, sending, waitingSince, sentBy}
-use Rattle.hearing.specs.Steps as steps
-use Rattle.hearing.specs.Hearing.{stale, hearFault, readyPhase, quietPhase, phaseAfter, requestIn, stationAfter, hearing, hearOf}
+use Rattle.hearing.specs.Hearing.{hearOf}
 use Rattle.headend.specs.Requests.{Request, heldOf}
-use Rattle.headend.specs.Records as records
-use Rattle.issuing.specs.Plan as plan
-use Rattle.issuing.specs.Issue.{planOf, callFault, issueFault, movedTo, issuedFrom, issueOf}
 use Rattle.channel.specs.History.{Issue, bytesOf, State, nobody, stationAt, Offer, Issue', Hear, Deliver, heardBy, step, after}
 use Rattle.channel.specs.Claims.{GrantedAlone, HeldWaits}
+use Rattle.channel.proofs.Computing.{rules}
 use Rattle.channel.proofs.Keeping.{clash, and-left, and-right}
 use Rattle.channel.proofs.Histories.{start, request, sends}
 
@@ -97,7 +81,7 @@ computed :
     × (calm (repeated .stations) ≡ true)
     × (heldOf (foreign .headend) ≡ request 5 3 4294967290 ∷ [])
     × (calm (foreign .stations) ≡ true)
-unfolding calm after step ahead earlier listed sidAllowed wordAt fieldsOf badBackoffs misordered misplaced faultOf advanced endedAt walked intervals mapLength afterNull grantsTo pendingsTo headerFault readOf writing.bytesOf writing.headerOf writing.elementsOf writing.messageOf station.badPhase station.recordFault spaced contentionIn ownIn contention own steps.granted lost acknowledged deferred passing offeredOwn sending waitingSince sentBy stale hearFault readyPhase quietPhase phaseAfter requestIn stationAfter hearing hearOf offering.idle offering.offerFault offering.offerOf heldOf records.withPlaces records.any records.recordFault records.requestFault records.joined records.requestOf plan.granted plan.pending plan.total plan.grants plan.pendings plan.elementsOf planOf callFault issueFault movedTo issuedFrom issueOf
+unfolding calm rules
 computed = (refl, refl, refl, refl, refl, refl)
 
 pub sids-differ : HeldWaits twins → ⊥
@@ -111,7 +95,7 @@ no-others = held-alone foreign (request 5 3 4294967290) (computed .4) (computed 
 
 -- its burst lies in station 5's grant
 pub none-altered : GrantedAlone altered → ⊥
-unfolding after step ahead earlier listed sidAllowed wordAt fieldsOf badBackoffs misordered misplaced faultOf advanced endedAt walked intervals mapLength afterNull grantsTo pendingsTo headerFault readOf writing.bytesOf writing.headerOf writing.elementsOf writing.messageOf station.badPhase station.recordFault spaced contentionIn ownIn contention own steps.granted lost acknowledged deferred passing offeredOwn sending waitingSince sentBy stale hearFault readyPhase quietPhase phaseAfter requestIn stationAfter hearing hearOf offering.idle offering.offerFault offering.offerOf heldOf records.withPlaces records.any records.recordFault records.requestFault records.joined records.requestOf plan.granted plan.pending plan.total plan.grants plan.pendings plan.elementsOf planOf callFault issueFault movedTo issuedFrom issueOf
+unfolding rules
 none-altered claim =
     let same : _≡_ {A = ℕ} 5 6 = claim granting (List·Memᴰ·head refl) (record { sid = 5; iuc = 5; first = 6; length = 3 }) (List·Memᴰ·tail (List·Memᴰ·head refl)) refl 0 (lit< tt) (sends 6 6 3) (List·Memᴰ·head refl) 0 (lit< tt) refl in
     omega arith
