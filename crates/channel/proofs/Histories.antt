@@ -8,15 +8,18 @@ use lib.Dec.{ltb, lit<}
 use borrow.Author.Tests.{ltb-true}
 use lib.ListN.{take}
 use Rattle.slots.specs.Time.{ahead, half}
+use Rattle.rules.specs.Refusals.{Room, numberOf, refusal}
 use Rattle.message.specs.Map.{endOf}
 use Rattle.station.specs.declared.record.Phase.the-variants.{Idle, Waiting}
 use Rattle.station.specs.Offering as offering
 use Rattle.headend.specs.Requests.{Request, heldOf}
 use Rattle.headend.specs.Records as records
-use Rattle.channel.specs.History.{Issue, mapIn, Sending, State, stationAt, Event, Offer, Issue', Hear, Deliver, Lose, after}
+use Rattle.issuing.specs.declared.issuing.Issued.the-variants as issued
+use Rattle.channel.specs.History.{Issue, mapIn, Sending, State, stationAt, Event, Offer, Issue', Hear, Deliver, Lose, asked, issuing, step, after}
 use Rattle.channel.specs.Claims.{FreshStation, Fresh, Within, Safe}
 use Rattle.channel.proofs.Computing.{rules}
 use Rattle.channel.proofs.Keeping.{and-left, and-right, each-cons}
+use Rattle.channel.proofs.Refusing.{no-room}
 use Rattle.channel.proofs.Spanning.{safe}
 
 -- six mini-slots before the counter rolls over: a headend on channel 1, description 2, and stations 5 and 6
@@ -35,16 +38,20 @@ request sid size first = record { sid = sid; size = size; first = first }
 abbrev pub sends : ℕ → ℕ → ℕ → Sending
 sends sid first size = record { sid = sid; first = first; size = size }
 
+-- an issue with room for 64 held
+abbrev pub issue : ℕ → ℕ → ℕ → Event
+issue ack c budget = Issue' ack c budget 280
+
 -- a request is sent, taken, granted and heard, and the station is Idle again
 abbrev pub served : List Event
-served = Offer 0 3 ∷ Issue' 4294967290 6 6 ∷ Hear 0 0 4294967289 0 ∷ Deliver 0 ∷ Issue' 4294967290 6 20 ∷ Hear 0 0 4294967295 0 ∷ []
+served = Offer 0 3 ∷ issue 4294967290 6 6 ∷ Hear 0 0 4294967289 0 ∷ Deliver 0 ∷ issue 4294967290 6 20 ∷ Hear 0 0 4294967295 0 ∷ []
 
 -- both stations send in one mini-slot and neither is heard; both try again, are taken and granted
 abbrev pub collided : List Event
 collided =
-    Offer 0 3 ∷ Offer 1 4 ∷ Issue' 4294967290 6 6 ∷ Hear 0 0 4294967289 0 ∷ Hear 1 0 4294967289 0 ∷ Lose 0 ∷ Lose 0
-    ∷ Issue' 4294967291 6 6 ∷ Hear 0 0 4294967295 0 ∷ Hear 1 0 4294967295 1 ∷ Deliver 1 ∷ Deliver 0
-    ∷ Issue' 2 6 20 ∷ Hear 0 0 5 0 ∷ Hear 1 0 5 0 ∷ []
+    Offer 0 3 ∷ Offer 1 4 ∷ issue 4294967290 6 6 ∷ Hear 0 0 4294967289 0 ∷ Hear 1 0 4294967289 0 ∷ Lose 0 ∷ Lose 0
+    ∷ issue 4294967291 6 6 ∷ Hear 0 0 4294967295 0 ∷ Hear 1 0 4294967295 1 ∷ Deliver 1 ∷ Deliver 0
+    ∷ issue 2 6 20 ∷ Hear 0 0 5 0 ∷ Hear 1 0 5 0 ∷ []
 
 -- all starts and ends less than 2^31 ahead of E
 unfoldable pub fitting : ℕ → List Issue → Bool
@@ -67,6 +74,13 @@ pub computed :
     × (fitting 4294967290 (after collided start .issues) ≡ true)
 unfolding fitting rules
 computed = (refl, refl, refl, refl, refl, refl, refl, refl, refl, refl, refl, refl, refl)
+
+-- one byte too few for one held: 11, and nothing changes
+pub crowded :
+    let taken = after (take 4 served) start in
+    (issuing (asked taken 4294967290 6 20) 27 .answer ≡ issued.Refused (refusal (numberOf Room) 0)) × (step taken (Issue' 4294967290 6 20 27) ≡ taken)
+unfolding rules
+crowded = (refl, no-room (after (take 4 served) start) 4294967290 6 20 27 (lit< tt))
 
 within : (s : State) (E : ℕ) → fitting E (s .issues) ≡ true → Within s E
 unfolding fitting

@@ -3,7 +3,7 @@ use mathlib.Core.Path.{_≡_, refl}
 use mathlib.Core.Bool.{Bool, true, false, not}
 use mathlib.Core.Logic.{_⊎_, inl, inr}
 use mathlib.Core.List.{List}
-use Prim.Native.Nat.{ℕ, _≤_, _<_}
+use Prim.Native.Nat.{ℕ, _+_, _*_, _%_, _^_, _≤_, _<_}
 use native.Mathlib.Omega.{arith}
 use lib.Dec.{eqb}
 use borrow.Author.Tests.{eqb-true, not-false}
@@ -26,7 +26,10 @@ use Rattle.hearing.specs.declared.answer.Answer.the-variants as answer
 use Rattle.hearing.specs.declared.answer.Hearing.{Hearing}
 use Rattle.hearing.specs.Hearing.{stale, hearFault, burstsIn, requestIn, stationAfter, unheard, hearing, hearOf}
 use Rattle.headend.proofs.Checks.{handed-on}
+use Rattle.issuing.specs.Issue.{issueFault, issueOf}
+use Rattle.channel.specs.History.{State, Issue', step}
 use Rattle.channel.proofs.Timing.{at, onward-at}
+use Rattle.channel.proofs.Contents.{issue-called}
 use Rattle.channel.proofs.Invariant.{upTo, heardTo}
 
 -- an accepted hearing
@@ -79,3 +82,12 @@ offer-either st size = go (eqb (offerFault st size) 0) refl
     go : (b : Bool) → eqb (offerFault st size) 0 ≡ b → (offerOf st size .station ≡ st) ⊎ ((offerOf st size .station ≡ wanting st size) × (st .phase ≡ Idle))
     go false f = inl (rw f refl)
     go true f = inr (rw f refl, is-idle (st .phase) (passed (not (idle (st .phase))) 15 _ (handed-on (station.recordFault st) _ (eqb-true _ 0 f) .1) .0))
+
+-- "11: Room: lent bytes too few": an issue without room changes nothing, whatever else it asks
+pub no-room : (s : State) (ack c budget room : ℕ) → room < 24 + 4 * s .headend .held → step s (Issue' ack c budget room) ≡ s
+unfolding step issueOf
+no-room s ack c budget room few = go (eqb (issueFault (s .headend) (ack % 2 ^ 32) c budget room) 0) refl
+  where
+    go : (b : Bool) → eqb (issueFault (s .headend) (ack % 2 ^ 32) c budget room) 0 ≡ b → step s (Issue' ack c budget room) ≡ s
+    go false e = rw e refl
+    go true e = let z = issue-called (s .headend) (ack % 2 ^ 32) c budget room (eqb-true _ 0 e) in absurd (omega arith)

@@ -2,12 +2,12 @@
 use mathlib.Core.Path.{_≡_, refl, sym, _∙_, ap}
 use mathlib.Core.Bool.{Bool, true, false}
 use mathlib.Core.List.{List, [], _∷_, map}
-use Prim.Native.Nat.{ℕ, zero, suc, _+_, _*_, _%_, _^_, _≤_, _<_}
+use Prim.Native.Nat.{ℕ, zero, suc, _+_, _*_, _%_, _^_, _<_}
 use native.Mathlib.Omega.{arith}
 use contract.Lifetimes
 use borrow.Fn.World
 use borrow.Fn.Kinds as Kinds'
-use borrow.Author.Tests.{lt-ltb, le-ltb, eqb-true}
+use borrow.Author.Tests.{lt-ltb, eqb-true}
 use denote.Triple.Clauses
 use denote.Ref.{now}
 use lib.Dec.{eqb}
@@ -37,7 +37,7 @@ use Rattle.headend.proofs.record.Headend.request.Reads as request
 use Rattle.headend.proofs.record.Headend.request.Kinds as request-kinds
 use Rattle.issuing.specs.declared.issuing.Issuing.{Issuing}
 use Rattle.issuing.specs.declared.issuing.Issued.the-variants as issued
-use Rattle.issuing.specs.Issue.{planOf, planMessage, callFault, issueFault, issueOf, issueInto}
+use Rattle.issuing.specs.Issue.{planOf, planMessage, issueFault, issueOf, issueInto}
 use Rattle.issuing.proofs.issuing.issue as issue'
 use Rattle.issuing.proofs.issuing.issue.Reads as issue
 use Rattle.issuing.proofs.issuing.issue.Kinds as issue-kinds
@@ -66,11 +66,6 @@ module _ (κs : Lifetimes.Lfts 0) (a : World.ArgsD request'.signature κs) (r : 
   unfolding step
   request-code s k e f = rw (post, e, f) refl
 
--- enough room is as good as just enough
-room-enough : (h : Headend) (ack c budget room : ℕ) → 24 + 4 * h .held ≤ room → issueOf h ack c budget room ≡ issueOf h ack c budget (24 + 4 * h .held)
-unfolding issueOf issueFault callFault
-room-enough h ack c budget room l = rw (le-ltb room (24 + 4 * h .held) l, le-ltb (24 + 4 * h .held) (24 + 4 * h .held) (omega arith)) refl
-
 -- what lies in the lent bytes
 lent : (h : Headend) (ack c budget n : ℕ) (old : List ℕ) → issueOf h ack c budget (length old) .answer ≡ issued.Size n → take n (issueInto h ack c budget old) ≡ planMessage h ack c budget
 unfolding issueOf issueInto
@@ -86,14 +81,14 @@ lent h ack c budget n old e = go (eqb (issueFault h ack c budget (length old)) 0
         let long : length (planMessage h ack c budget) ≡ n = length-message (planOf h ack c budget .fields) (planOf h ack c budget .elements) old ∙ omega arith in
         rw f (take-at (planMessage h ack c budget) (drop (length (planMessage h ack c budget)) old) n long)
 
--- issue, with room enough; and what it lays out are the bytes that stations hear
+-- issue, the lent bytes its room; and what it lays out are the bytes that stations hear
 module _ (κs : Lifetimes.Lfts 1) (a : World.ArgsD issue'.signature κs) (r : World.ResD issue'.signature κs) (t : Clauses.AtExit (Kinds'.endedOf 1 issue-kinds.ps issue-kinds.r) κs) (post : issue.Post κs a r t)
     (s : State) (ack : ℕ) (same : a .0 ≡ s .headend) (time : a .1 .0 .0 ≡ ack % 2 ^ 32) where
-  pub issue-code : 24 + 4 * s .headend .held ≤ length (now (a .1 .1 .1 .1 .0)) →
-      step s (Issue' ack (a .1 .1 .0) (a .1 .1 .1 .0)) ≡
+  pub issue-code :
+      step s (Issue' ack (a .1 .1 .0) (a .1 .1 .1 .0) (length (now (a .1 .1 .1 .1 .0)))) ≡
       record { headend = r .headend; stations = s .stations; issues = issuesAfter (r .answer) (asked s ack (a .1 .1 .0) (a .1 .1 .1 .0)) (s .issues); flying = s .flying; log = s .log }
   unfolding step
-  issue-code l = rw (post .0, same, time, room-enough (s .headend) (ack % 2 ^ 32) (a .1 .1 .0) (a .1 .1 .1 .0) (length (now (a .1 .1 .1 .1 .0))) l) refl
+  issue-code = rw (post .0, same, time) refl
 
   pub issue-bytes : (n : ℕ) → r .answer ≡ issued.Size n → take n (now (t .1 .1 .1 .1 .0)) ≡ bytesOf (asked s ack (a .1 .1 .0) (a .1 .1 .1 .0))
   issue-bytes n e =

@@ -13,11 +13,11 @@ use Rattle.station.specs.declared.record.Phase.the-variants.{Idle, Wanting, Def
 use Rattle.station.specs.Offering as offering
 use Rattle.hearing.specs.Hearing.{hearOf}
 use Rattle.headend.specs.Requests.{Request, heldOf}
-use Rattle.channel.specs.History.{Issue, bytesOf, State, nobody, stationAt, Offer, Issue', Hear, Deliver, heardBy, step, after}
+use Rattle.channel.specs.History.{Issue, bytesOf, State, nobody, stationAt, Offer, Hear, Deliver, heardBy, step, after}
 use Rattle.channel.specs.Claims.{GrantedAlone, HeldWaits}
 use Rattle.channel.proofs.Computing.{rules}
 use Rattle.channel.proofs.Keeping.{clash, and-left, and-right}
-use Rattle.channel.proofs.Histories.{start, request, sends}
+use Rattle.channel.proofs.Histories.{start, issue, request, sends}
 
 -- no station waits
 abbrev calmPhase : Phase → Bool
@@ -49,21 +49,21 @@ withFlying s qs = record { headend = s .headend; stations = s .stations; issues 
 
 -- "with different SIDs": two stations are both 5. The grant to one makes both Idle; then the other's request arrives
 abbrev twins : State
-twins = after (Offer 0 3 ∷ Offer 1 4 ∷ Issue' 4294967290 6 6 ∷ Hear 0 0 4294967289 0 ∷ Hear 1 0 4294967289 0 ∷ Deliver 1 ∷ Issue' 4294967290 6 20 ∷ Hear 0 0 4294967295 0 ∷ Hear 1 0 4294967295 0 ∷ Deliver 0 ∷ [])
+twins = after (Offer 0 3 ∷ Offer 1 4 ∷ issue 4294967290 6 6 ∷ Hear 0 0 4294967289 0 ∷ Hear 1 0 4294967289 0 ∷ Deliver 1 ∷ issue 4294967290 6 20 ∷ Hear 0 0 4294967295 0 ∷ Hear 1 0 4294967295 0 ∷ Deliver 0 ∷ [])
     (record { headend = start .headend; stations = offering.fresh 5 1 2 1 ∷ offering.fresh 5 1 2 1 ∷ []; issues = []; flying = []; log = [] })
 
 -- "not repeated": the request that was sent once flies twice; the second arrives when the first was granted and heard
 abbrev repeated : State
-repeated = after (Deliver 0 ∷ Issue' 4294967290 6 20 ∷ Hear 0 0 4294967295 0 ∷ Deliver 0 ∷ [])
-    (withFlying (after (Offer 0 3 ∷ Issue' 4294967290 6 6 ∷ Hear 0 0 4294967289 0 ∷ []) start) (request 5 3 4294967290 ∷ request 5 3 4294967290 ∷ []))
+repeated = after (Deliver 0 ∷ issue 4294967290 6 20 ∷ Hear 0 0 4294967295 0 ∷ Deliver 0 ∷ [])
+    (withFlying (after (Offer 0 3 ∷ issue 4294967290 6 6 ∷ Hear 0 0 4294967289 0 ∷ []) start) (request 5 3 4294967290 ∷ request 5 3 4294967290 ∷ []))
 
 -- "and no others come": a request in station 5's name that it never sent
 abbrev foreign : State
-foreign = step (withFlying (step start (Issue' 4294967290 6 6)) (request 5 3 4294967290 ∷ [])) (Deliver 0)
+foreign = step (withFlying (step start (issue 4294967290 6 6)) (request 5 3 4294967290 ∷ [])) (Deliver 0)
 
 -- "not altered": station 6 hears the MAP that grants station 5, its byte 21 changed so that the grant names SID 6
 abbrev taken : State
-taken = after (Offer 0 3 ∷ Issue' 4294967290 6 6 ∷ Hear 0 0 4294967289 0 ∷ Deliver 0 ∷ []) start
+taken = after (Offer 0 3 ∷ issue 4294967290 6 6 ∷ Hear 0 0 4294967289 0 ∷ Deliver 0 ∷ []) start
 
 abbrev granting : Issue
 granting = record { before = taken .headend; ack = 4294967290; c = 6; budget = 20 }
@@ -72,7 +72,7 @@ abbrev changed : List ℕ
 changed = set (bytesOf granting) 21 0x19
 
 abbrev altered : State
-altered = let s = step taken (Issue' 4294967290 6 20) in heardBy s 1 (hearOf (stationAt s 1) changed 4294967295 0) (mapOf changed)
+altered = let s = step taken (issue 4294967290 6 20) in heardBy s 1 (hearOf (stationAt s 1) changed 4294967295 0) (mapOf changed)
 
 computed :
     (heldOf (twins .headend) ≡ request 5 4 4294967290 ∷ [])

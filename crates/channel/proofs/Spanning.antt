@@ -2,7 +2,7 @@
 use mathlib.Core.Path.{_≡_, refl, sym, _∙_, ap}
 use mathlib.Core.Bool.{Bool, true, false, cond}
 use mathlib.Core.List.{List, [], _∷_, List·Memᴰ, List·Memᴰ·head, List·Memᴰ·tail}
-use Prim.Native.Nat.{ℕ, _+_, _*_, _%_, _^_, _≤_, _<_}
+use Prim.Native.Nat.{ℕ, _+_, _%_, _^_, _≤_, _<_}
 use native.Mathlib.Nat.{mod-lt}
 use native.Mathlib.Omega.{arith}
 use lib.Dec.{ltb, eqb}
@@ -39,18 +39,17 @@ next-stays h q = go (eqb (requestFault h q) 0) refl
     go true e = rw e refl
     go false e = rw e refl
 
-linking-issue : (s : State) (ack c budget : ℕ) → Linking s → Linking (step s (Issue' ack c budget))
+linking-issue : (s : State) (ack c budget room : ℕ) → Linking s → Linking (step s (Issue' ack c budget room))
 unfolding step issueOf
-linking-issue s ack c budget l = go (eqb (issueFault (s .headend) (ack % 2 ^ 32) c budget (24 + 4 * s .headend .held)) 0) refl
+linking-issue s ack c budget room l = go (eqb (issueFault (s .headend) (ack % 2 ^ 32) c budget room) 0) refl
   where
     j : Issue
     j = asked s ack c budget
 
-    go : (b : Bool) → eqb (issueFault (s .headend) (ack % 2 ^ 32) c budget (24 + 4 * s .headend .held)) 0 ≡ b → Linking (step s (Issue' ack c budget))
+    go : (b : Bool) → eqb (issueFault (s .headend) (ack % 2 ^ 32) c budget room) 0 ≡ b → Linking (step s (Issue' ack c budget room))
     go false e = rw e l
     go true e =
-        let room = 24 + 4 * s .headend .held in
-        let ok = issue-called (s .headend) (ack % 2 ^ 32) c budget (24 + 4 * s .headend .held) (eqb-true _ 0 e) in
+        let ok = issue-called (s .headend) (ack % 2 ^ 32) c budget room (eqb-true _ 0 e) in
         let fits = mod-lt ack (pow-pos 32) in
         let told = contents j room ok (l .0) fits in
         let next = next-is j room ok (l .0) fits in
@@ -59,7 +58,7 @@ linking-issue s ack c budget l = go (eqb (issueFault (s .headend) (ack % 2 ^ 32)
 linking-step : (s : State) (e : Event) → Linking s → Linking (step s e)
 unfolding step
 linking-step s (Offer i size) l = l
-linking-step s (Issue' ack c budget) l = linking-issue s ack c budget l
+linking-step s (Issue' ack c budget room) l = linking-issue s ack c budget room l
 linking-step s (Hear i k present draw) l = go (ltb i (length (s .stations))) (from k (s .issues))
   where
     go : (b : Bool) (js : List Issue) → Linking (cond b (heardAt s i js present draw) s)

@@ -3,7 +3,7 @@ use mathlib.Core.Path.{_≡_, refl, sym, _∙_, ap}
 use mathlib.Core.Bool.{Bool, true, false, cond, _&&_}
 use mathlib.Core.Logic.{_⊎_, inl, inr}
 use mathlib.Core.List.{List, [], _∷_, _++_, append-nil, List·Memᴰ, List·Memᴰ·tail, List·Memᴰ·append-cases, List·Memᴰ·eq-of-singleton, Memᴰ·append-right}
-use Prim.Native.Nat.{ℕ, _+_, _*_, _%_, _^_, _≤_, _<_}
+use Prim.Native.Nat.{ℕ, _+_, _%_, _^_, _≤_, _<_}
 use native.Mathlib.Nat.{mod-lt}
 use native.Mathlib.Omega.{arith}
 use lib.Dec.{leb, ltb, eqb}
@@ -239,13 +239,13 @@ module _ (B : ℕ) (s : State) (inv : Inv B s) where
       owned-held = λ q m. inv .owned-held q (rw (held-split j) at (Memᴰ·append-right (grantedBy j) (rw held-is at m)));
     }
 
-  pub inv-issue : (ack c budget : ℕ) → spent (step s (Issue' ack c budget) .issues) < 2147483648 → Inv B (step s (Issue' ack c budget))
+  pub inv-issue : (ack c budget room : ℕ) → spent (step s (Issue' ack c budget room) .issues) < 2147483648 → Inv B (step s (Issue' ack c budget room))
   unfolding step issueOf
-  inv-issue ack c budget = go (eqb (issueFault (s .headend) (ack % 2 ^ 32) c budget (24 + 4 * s .headend .held)) 0) refl
+  inv-issue ack c budget room = go (eqb (issueFault (s .headend) (ack % 2 ^ 32) c budget room) 0) refl
     where
-      go : (b : Bool) → eqb (issueFault (s .headend) (ack % 2 ^ 32) c budget (24 + 4 * s .headend .held)) 0 ≡ b → spent (step s (Issue' ack c budget) .issues) < 2147483648 → Inv B (step s (Issue' ack c budget))
+      go : (b : Bool) → eqb (issueFault (s .headend) (ack % 2 ^ 32) c budget room) 0 ≡ b → spent (step s (Issue' ack c budget room) .issues) < 2147483648 → Inv B (step s (Issue' ack c budget room))
       go false e small = rw e inv
-      go true e small = rw e (made (ack % 2 ^ 32) c budget (rw e at small) (mod-lt ack (pow-pos 32)) (24 + 4 * s .headend .held) (issue-called (s .headend) (ack % 2 ^ 32) c budget (24 + 4 * s .headend .held) (eqb-true _ 0 e)))
+      go true e small = rw e (made (ack % 2 ^ 32) c budget (rw e at small) (mod-lt ack (pow-pos 32)) room (issue-called (s .headend) (ack % 2 ^ 32) c budget room (eqb-true _ 0 e)))
 
   -- station i hears MAP j
   module _ (small : spent (s .issues) < 2147483648) (i : ℕ) (inside : i < length (s .stations)) (j : Issue) (mem : List·Memᴰ j (s .issues)) where

@@ -53,7 +53,7 @@ issues-grow (issued.Refused why) j js = omega arith
 grows : (s : State) (e : Event) → spent (s .issues) ≤ spent (step s e .issues)
 unfolding step
 grows s (Offer i size) = omega arith
-grows s (Issue' ack c budget) = issues-grow (issuing (asked s ack c budget) .answer) (asked s ack c budget) (s .issues)
+grows s (Issue' ack c budget room) = issues-grow (issuing (asked s ack c budget) room .answer) (asked s ack c budget) (s .issues)
 grows s (Hear i j present draw) = go (ltb i (length (s .stations))) (from j (s .issues))
   where
     go : (b : Bool) (js : List Issue) → spent (s .issues) ≤ spent (cond b (heardAt s i js present draw) s .issues)
@@ -71,7 +71,7 @@ grows-all (e ∷ es) s = let a = grows s e in let b = grows-all es (step s e) in
 module _ (B : ℕ) where
   inv-step : (s : State) (e : Event) → Inv B s → spent (step s e .issues) < 2147483648 → Inv B (step s e)
   inv-step s (Offer i size) inv h = inv-offer B s inv i size
-  inv-step s (Issue' ack c budget) inv h = inv-issue B s inv ack c budget h
+  inv-step s (Issue' ack c budget room) inv h = inv-issue B s inv ack c budget room h
   inv-step s (Hear i j present draw) inv h = let g = grows s (Hear i j present draw) in inv-hear B s inv (omega arith) i j present draw
   inv-step s (Deliver k) inv h = let g = grows s (Deliver k) in inv-deliver B s inv (omega arith) k
   inv-step s (Lose k) inv h = inv-lose B s inv k

@@ -1,7 +1,7 @@
 -- Histories: one headend, some stations, and what is under way between them. Every rule is the one that the contracts cite: `hearOf`, `offerOf`, `requestOf`, `issueOf`.
 use mathlib.Core.Bool.{cond}
 use mathlib.Core.List.{List, [], _∷_, _++_, map}
-use Prim.Native.Nat.{ℕ, zero, suc, _+_, _*_, _%_, _^_}
+use Prim.Native.Nat.{ℕ, zero, suc, _+_, _%_, _^_}
 use lib.Dec.{ltb}
 use lib.ListN.{length, getD, set}
 use Rattle.message.specs.Map.{Map, mapLength, grantsTo, timeAt}
@@ -70,8 +70,8 @@ pub record State : Type 0 where
 pub data Event : Type 0 where
   -- station i is offered a packet of a size
   Offer : ℕ → ℕ → Event
-  -- the headend issues a MAP: Ack Time, c and budget, into room enough
-  Issue' : ℕ → ℕ → ℕ → Event
+  -- the headend issues a MAP: Ack Time, c, budget and room, which may be too little
+  Issue' : ℕ → ℕ → ℕ → ℕ → Event
   -- station i hears the j-th newest MAP: present, draw
   Hear : ℕ → ℕ → ℕ → ℕ → Event
   -- the k-th request in flight reaches the headend
@@ -139,14 +139,14 @@ issuesAfter (issued.Refused why) j js = js
 abbrev pub asked : State → ℕ → ℕ → ℕ → Issue
 asked s ack c budget = record { before = s .headend; ack = ack % 2 ^ 32; c = c; budget = budget }
 
-abbrev pub issuing : Issue → Issuing
-issuing j = issueOf (j .before) (j .ack) (j .c) (j .budget) (24 + 4 * j .before .held)
+abbrev pub issuing : Issue → ℕ → Issuing
+issuing j room = issueOf (j .before) (j .ack) (j .c) (j .budget) room
 
-abbrev pub issuedBy : State → Issue → State
-issuedBy s j = record {
-  headend = issuing j .headend;
+abbrev pub issuedBy : State → Issue → ℕ → State
+issuedBy s j room = record {
+  headend = issuing j room .headend;
   stations = s .stations;
-  issues = issuesAfter (issuing j .answer) j (s .issues);
+  issues = issuesAfter (issuing j room .answer) j (s .issues);
   flying = s .flying;
   log = s .log;
 }
@@ -169,7 +169,7 @@ step s (Offer i size) = record {
   flying = s .flying;
   log = s .log;
 }
-step s (Issue' ack c budget) = issuedBy s (asked s ack c budget)
+step s (Issue' ack c budget room) = issuedBy s (asked s ack c budget) room
 step s (Hear i j present draw) = cond (ltb i (length (s .stations))) (heardAt s i (from j (s .issues)) present draw) s
 step s (Deliver k) = landed s k (requestOf (s .headend) (getD (s .flying) k nothing) .headend)
 step s (Lose k) = landed s k (s .headend)
