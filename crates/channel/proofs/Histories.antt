@@ -1,7 +1,7 @@
--- The theorem is not empty: two histories, written out and computed, that meet its premises.
+-- The theorem is not empty: three histories, written out and computed, that meet its premises.
 use mathlib.Core.Path.{_≡_, refl}
 use mathlib.Core.Bool.{Bool, true, _&&_}
-use mathlib.Core.List.{List, [], _∷_, List·Memᴰ, List·Memᴰ·not-nil}
+use mathlib.Core.List.{List, [], _∷_, List·Memᴰ, List·Memᴰ·head, List·Memᴰ·not-nil}
 use Prim.Native.Nat.{ℕ, zero, suc, _<_}
 use native.Mathlib.Omega.{arith}
 use lib.Dec.{ltb, lit<}
@@ -12,6 +12,7 @@ use Rattle.rules.specs.Refusals.{Room, numberOf, refusal}
 use Rattle.message.specs.Map.{endOf}
 use Rattle.station.specs.declared.record.Phase.the-variants.{Idle, Waiting}
 use Rattle.station.specs.Offering as offering
+use Rattle.hearing.specs.declared.answer.Sent.the-variants as sent
 use Rattle.headend.specs.Requests.{Request, heldOf}
 use Rattle.headend.specs.Records as records
 use Rattle.issuing.specs.declared.issuing.Issued.the-variants as issued
@@ -19,6 +20,7 @@ use Rattle.channel.specs.History.{Issue, mapIn, Sending, State, stationA
 use Rattle.channel.specs.Claims.{FreshStation, Fresh, Within, Safe}
 use Rattle.channel.proofs.Computing.{rules}
 use Rattle.channel.proofs.Keeping.{and-left, and-right, each-cons}
+use Rattle.channel.proofs.Claimed.{Outlasts, was-held}
 use Rattle.channel.proofs.Refusing.{no-room}
 use Rattle.channel.proofs.Spanning.{safe}
 
@@ -53,6 +55,10 @@ collided =
     ∷ issue 4294967291 6 6 ∷ Hear 0 0 4294967295 0 ∷ Hear 1 0 4294967295 1 ∷ Deliver 1 ∷ Deliver 0
     ∷ issue 2 6 20 ∷ Hear 0 0 5 0 ∷ Hear 1 0 5 0 ∷ []
 
+-- both send; the one's request is lost, the other's is taken and does not fit: the next MAP leaves it pending, and its Ack Time is later than both
+abbrev pub pended : List Event
+pended = Offer 0 3 ∷ Offer 1 4 ∷ issue 4294967290 6 6 ∷ Hear 0 0 4294967289 0 ∷ Hear 1 0 4294967289 0 ∷ Lose 1 ∷ Deliver 0 ∷ issue 4294967291 6 6 ∷ []
+
 -- all starts and ends less than 2^31 ahead of E
 unfoldable pub fitting : ℕ → List Issue → Bool
 fitting E [] = true
@@ -72,8 +78,9 @@ pub computed :
     × (stationAt (after collided start) 0 .phase ≡ Idle)
     × (stationAt (after collided start) 1 .phase ≡ Idle)
     × (fitting 4294967290 (after collided start .issues) ≡ true)
+    × (fitting 4294967290 (after pended start .issues) ≡ true)
 unfolding fitting rules
-computed = (refl, refl, refl, refl, refl, refl, refl, refl, refl, refl, refl, refl, refl)
+computed = (refl, refl, refl, refl, refl, refl, refl, refl, refl, refl, refl, refl, refl, refl)
 
 -- one byte too few for one held: 11, and nothing changes
 pub crowded :
@@ -121,9 +128,24 @@ fresh-start = record {
     different (suc zero) (suc (suc k)) h g e = absurd (omega arith)
     different (suc (suc i)) k h g e = absurd (omega arith)
 
--- so the theorem speaks of both
+-- so the theorem speaks of all three
 pub served-safe : Safe (after served start)
 served-safe = safe start fresh-start served 4294967290 (within (after served start) 4294967290 (computed .5))
 
 pub collided-safe : Safe (after collided start)
 collided-safe = safe start fresh-start collided 4294967290 (within (after collided start) 4294967290 (computed .12))
+
+pub pended-safe : Safe (after pended start)
+pended-safe = safe start fresh-start pended 4294967290 (within (after pended start) 4294967290 (computed .13))
+
+-- (c) has something to say: station 6 hears that MAP and waits on, past its Ack Time
+abbrev pub pending : State → Issue
+pending s = asked (after (take 7 pended) s) 4294967291 6 6
+
+pub pended-outlasts : Outlasts (after pended start) 1 (pending start) (request 6 4 4294967290)
+unfolding rules
+pended-outlasts = record { present = 4294967295; draw = 0; bursts = 0; request = sent.Nothing; exponent = 0; retries = 0; inside = lit< tt; issued = List·Memᴰ·head refl; accepts = refl; waits = refl; passed = refl; its = refl }
+
+-- .. on the request that was held when the MAP was issued
+pub pended-held : List·Memᴰ (request 6 4 4294967290) (heldOf (pending start .before))
+pended-held = was-held (after pended start) 1 (pending start) (request 6 4 4294967290) (pended-safe .waiting-held) pended-outlasts

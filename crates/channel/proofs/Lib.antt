@@ -15,6 +15,7 @@ pub mod Start
 pub mod Theorem
 pub mod Spanning
 pub mod Computing
+pub mod Claimed
 pub mod Histories
 pub mod Sharp
 pub mod Numbers
