@@ -2,7 +2,7 @@
 use mathlib.Core.Path.{_≡_, refl}
 use mathlib.Core.Bool.{Bool, true, _&&_}
 use mathlib.Core.List.{List, [], _∷_, List·Memᴰ, List·Memᴰ·head, List·Memᴰ·not-nil}
-use Prim.Native.Nat.{ℕ, zero, suc, _<_}
+use Prim.Native.Nat.{ℕ, zero, suc, _^_, _<_}
 use native.Mathlib.Omega.{arith}
 use lib.Dec.{ltb, lit<}
 use borrow.Author.Tests.{ltb-true}
@@ -24,15 +24,19 @@ use Rattle.channel.proofs.Claimed.{Outlasts, was-held}
 use Rattle.channel.proofs.Refusing.{no-room}
 use Rattle.channel.proofs.Spanning.{safe}
 
--- six mini-slots before the counter rolls over: a headend on channel 1, description 2, and stations 5 and 6
-abbrev pub start : State
-start = record {
-  headend = records.fresh (record { 0 = 4294967290 }) 1 2 (record { start = 0; end = 4 }) (record { start = 0; end = 4 }) 100;
+-- a headend on channel 1, description 2, with this next start, and stations 5 and 6
+abbrev pub startAt : ℕ → State
+startAt next = record {
+  headend = records.fresh (record { 0 = next }) 1 2 (record { start = 0; end = 4 }) (record { start = 0; end = 4 }) 100;
   stations = offering.fresh 5 1 2 1 ∷ offering.fresh 6 1 2 1 ∷ [];
   issues = [];
   flying = [];
   log = [];
 }
+
+-- six mini-slots before the counter rolls over
+abbrev pub start : State
+start = startAt 4294967290
 
 abbrev pub request : ℕ → ℕ → ℕ → Request
 request sid size first = record { sid = sid; size = size; first = first }
@@ -101,12 +105,12 @@ within s E e = let w = all (s .issues) e in record { starts = λ j m. w j m .0; 
         (ltb-true _ _ (and-left (ltb (ahead 32 E (mapIn k .fields .start .0)) (half 32)) _ both), ltb-true _ _ (and-right (ltb (ahead 32 E (mapIn k .fields .start .0)) (half 32)) _ both))
         (all ks (and-right (ltb (ahead 32 E (mapIn k .fields .start .0)) (half 32) && ltb (ahead 32 E (endOf (mapIn k))) (half 32)) (fitting E ks) e)) j m
 
-pub fresh-start : Fresh start
+pub fresh-start : (next : ℕ) → next < 2 ^ 32 → Fresh (startAt next)
 unfolding records.setUpOf offering.setUpOf
-fresh-start = record {
+fresh-start next clock = record {
   channel = 1;
   count = 2;
-  headend = record { next = record { 0 = 4294967290 }; ranging = record { start = 0; end = 4 }; dataBackoff = record { start = 0; end = 4 }; short = 100; set-up = refl; is = refl; clock = lit< tt };
+  headend = record { next = record { 0 = next }; ranging = record { start = 0; end = 4 }; dataBackoff = record { start = 0; end = 4 }; short = 100; set-up = refl; is = refl; clock = clock };
   stations = set-up;
   different = different;
   none-issued = refl;
@@ -114,12 +118,12 @@ fresh-start = record {
   none-sent = refl;
 }
   where
-    set-up : (i : ℕ) → i < 2 → FreshStation (stationAt start i) 1 2
+    set-up : (i : ℕ) → i < 2 → FreshStation (stationAt (startAt next) i) 1 2
     set-up zero h = record { sid = 5; r = 1; set-up = refl }
     set-up (suc zero) h = record { sid = 6; r = 1; set-up = refl }
     set-up (suc (suc i)) h = absurd (omega arith)
 
-    different : (i k : ℕ) → i < 2 → k < 2 → stationAt start i .sid ≡ stationAt start k .sid → i ≡ k
+    different : (i k : ℕ) → i < 2 → k < 2 → stationAt (startAt next) i .sid ≡ stationAt (startAt next) k .sid → i ≡ k
     different zero zero h g e = refl
     different zero (suc zero) h g e = absurd (omega arith)
     different (suc zero) zero h g e = absurd (omega arith)
@@ -128,15 +132,18 @@ fresh-start = record {
     different (suc zero) (suc (suc k)) h g e = absurd (omega arith)
     different (suc (suc i)) k h g e = absurd (omega arith)
 
+start-fresh : Fresh start
+start-fresh = fresh-start 4294967290 (lit< tt)
+
 -- so the theorem speaks of all three
 pub served-safe : Safe (after served start)
-served-safe = safe start fresh-start served 4294967290 (within (after served start) 4294967290 (computed .5))
+served-safe = safe start start-fresh served 4294967290 (within (after served start) 4294967290 (computed .5))
 
 pub collided-safe : Safe (after collided start)
-collided-safe = safe start fresh-start collided 4294967290 (within (after collided start) 4294967290 (computed .12))
+collided-safe = safe start start-fresh collided 4294967290 (within (after collided start) 4294967290 (computed .12))
 
 pub pended-safe : Safe (after pended start)
-pended-safe = safe start fresh-start pended 4294967290 (within (after pended start) 4294967290 (computed .13))
+pended-safe = safe start start-fresh pended 4294967290 (within (after pended start) 4294967290 (computed .13))
 
 -- (c) has something to say: station 6 hears that MAP and waits on, past its Ack Time
 abbrev pub pending : State → Issue

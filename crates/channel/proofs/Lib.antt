@@ -18,5 +18,7 @@ pub mod Computing
 pub mod Claimed
 pub mod Histories
 pub mod Sharp
+pub mod Idling
+pub mod Ancient
 pub mod Numbers
 pub mod Running

@@ -1,4 +1,4 @@
--- The theorem is sharp: for each of four premises a history without it, computed, in which a claim fails.
+-- The theorem is sharp: for each of four premises a history without it, computed, in which a claim fails. The span is in Ancient.antt.
 use mathlib.Core.Path.{_≡_, refl, ap}
 use mathlib.Core.Bool.{true}
 use mathlib.Core.List.{List, [], _∷_, List·Memᴰ, List·Memᴰ·head, List·Memᴰ·tail, List·Memᴰ·eq-of-singleton}
