@@ -15,8 +15,9 @@ use Rattle.message.proofs.Ways.{said, said-not, passed}
 use Rattle.headend.specs.declared.record.Headend.{Headend}
 use Rattle.headend.specs.declared.record.SetUp.{SetUp}
 use Rattle.headend.specs.declared.record.Taken.the-variants as taken
-use Rattle.headend.specs.Requests.{Request, requestAt, heldOf, firstOf}
-use Rattle.headend.specs.Records.{fresh, withPlaces, none, setUpOf, any, anyOutside, anyIs, badSize, recordFault, requestFault, joined, requestOf}
+use Rattle.headend.specs.Requests.{Request, requestAt, heldOf}
+use Rattle.headend.specs.Records.{fresh, withPlaces, none, setUpOf, any, badSize, recordFault, requestFault, joined, requestOf}
+use Rattle.headend.specs.Scan.{firstOf, anyOutside, anyIs}
 use Rattle.headend.proofs.Scans.{any-map}
 
 module _ (next : MiniSlot) (channel count : ℕ) (ranging dataBackoff : Backoff) (short : ℕ) (r : SetUp) (h : Headend) where

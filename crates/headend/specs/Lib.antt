@@ -1,2 +1,3 @@
 pub mod Requests
 pub mod Records
+pub mod Scan

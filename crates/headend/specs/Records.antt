@@ -64,13 +64,6 @@ module _ {A : Type 0} where
   any p [] = false
   any p (x ∷ xs) = p x || any p xs
 
--- .. whether any of these numbers lies outside a range, or is a given one
-abbrev pub anyOutside : ℕ → ℕ → List ℕ → Bool
-anyOutside low high xs = any (λ x. not (within low high x)) xs
-
-abbrev pub anyIs : ℕ → List ℕ → Bool
-anyIs x xs = any (λ y. eqb y x) xs
-
 -- 17: "packet or request not 1..255"
 abbrev pub badSize : ℕ → Bool
 badSize size = not (within 1 255 size)

@@ -17,7 +17,3 @@ requestAt h i = record { sid = getD (h .sids) i 0; size = getD (h .sizes) i 0; f
 -- "at most 64 requests"
 unfoldable pub heldOf : Headend → List Request
 heldOf h = listed (requestAt h) 0 (min (h .held) 64)
-
--- the first n of some numbers
-abbrev pub firstOf : ℕ → List ℕ → List ℕ
-firstOf n xs = listed (λ i. getD xs i 0) 0 n

@@ -1,3 +1,4 @@
 pub mod InPlace
 pub mod Table
 pub mod Forty
+pub mod Scan

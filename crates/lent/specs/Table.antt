@@ -11,7 +11,6 @@ use Rattle.hearing.specs.declared.answer.Answer.{Answer}
 use Rattle.hearing.specs.declared.answer.Answer.the-variants.{Heard, Refused}
 use Rattle.hearing.specs.declared.answer.Hearing.{Hearing}
 use Rattle.hearing.specs.Hearing.{hearOf}
-use Rattle.lent.specs.declared.table.Fit.{Fit}
 use Rattle.lent.specs.declared.table.Placed.{Placed}
 
 -- 17: "a table over 32, or fewer draws or places than records"
@@ -20,13 +19,6 @@ tableFault records draws places =
     cond (ltb 32 records) (numberOf Size)
     (cond (ltb draws records) (numberOf Size)
     (cond (ltb places records) (numberOf Size) 0))
-
--- every record is worked, or none
-unfoldable pub fitOf : ℕ → ℕ → ℕ → Fit
-fitOf records draws places = record {
-  n = cond (eqb (tableFault records draws places) 0) records 0;
-  code = tableFault records draws places;
-}
 
 -- "each record's place takes its refusal number alone, 0 if heard"
 abbrev pub numberIn : Answer → ℕ

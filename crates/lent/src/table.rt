@@ -2,7 +2,8 @@
 ghost use mathlib.Core.Path.{_≡_};
 ghost use Prim.Native.Nat.{_<_};
 ghost use lib.ListN.{length, getD};
-ghost use Rattle.lent.specs.Table.{fitOf, numberIn, placedOf, HearsTable};
+ghost use Rattle.lent.specs.Table.{numberIn, placedOf, HearsTable};
+ghost use Rattle.lent.specs.Scan.{fitOf};
 use hearing::Answer;
 use hearing::hear;
 use rules::Refusal;

@@ -6,7 +6,8 @@ use native.Mathlib.Omega.{arith}
 use lib.ListN.{length, take, drop, length-append, length-drop, take-append-drop, getD, set}
 use lib.Seq.{take-at, drop-at, drop-drop, length-take-le, take-length, paste, paste-suc}
 use native.Mathlib.Numerals.{add-one}
-use Rattle.report.specs.Text.{putAt, onto}
+use Rattle.report.specs.Text.{onto}
+use Rattle.report.specs.Scan.{putAt}
 
 -- of the whole text, rest is still to come; used bytes of out hold what came before it, and the others are as in o
 pub record Filling (whole rest o : List ℕ) (used : ℕ) (out : List ℕ) : Type 0 where

@@ -8,7 +8,8 @@ use lib.ListN.{length, take, drop, getD, drop-of-length-le}
 use lib.Seq.{drop-cons}
 use Rattle.io.specs.Digits.{digits, Fewest}
 use Rattle.report.specs.Decimal.{decimalOf}
-use Rattle.report.specs.Text.{fieldOf, fieldsOf, lineOf, putAt}
+use Rattle.report.specs.Text.{fieldOf, fieldsOf, lineOf}
+use Rattle.report.specs.Scan.{putAt}
 use Rattle.report.proofs.Decimals.{decimal-made}
 use Rattle.report.proofs.Filling.{Filling, fill-begins, fill-room, fill-put, fill-done}
 

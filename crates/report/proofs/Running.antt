@@ -23,7 +23,8 @@ use Rattle.report.specs.Bodies.{sizeOf, nextOf, andMore, bodiesFrom, bod
 use Rattle.report.specs.declared.reporting.Reported.{Reported}
 use Rattle.report.specs.declared.reporting.Reported.the-variants.{Length, Refused}
 use Rattle.report.specs.Report.{refusedInput, enough, reportOf, reportedOf, reportInto}
-use Rattle.report.specs.Text.{mapLine, refusedLine, spanLine, linesFrom, textOf, putAt, onto}
+use Rattle.report.specs.Text.{mapLine, refusedLine, spanLine, linesFrom, textOf, onto}
+use Rattle.report.specs.Scan.{putAt}
 use Rattle.report.proofs.Next.{next-good}
 use Rattle.report.proofs.Filling.{Filling, fill-begins, fill-room, fill-put, fill-end}
 

@@ -1,7 +1,7 @@
 -- Document 01, "The report": its text, in ASCII.
 use Prim.Native.Nat.{ℕ, _+_}
 use mathlib.Core.List.{List, [], _∷_, _++_}
-use lib.ListN.{length, take, drop}
+use lib.ListN.{length, drop}
 use Rattle.slots.specs.declared.span.Span.{Span}
 use Rattle.slots.specs.declared.span.Span.the-variants.{Nothing, Lost, Over}
 use Rattle.slots.specs.Time.{movedOn}
@@ -58,10 +58,6 @@ linesFrom i (Bad why ∷ bs) = refusedLine i why
 unfoldable pub textOf : List ℕ → List ℕ
 textOf s = linesFrom 0 (bodiesOf s) ++ spanLine (spanOf 32 (mapsIn (bodiesOf s)))
 
--- text put over the bytes from a place on
-abbrev pub putAt : ℕ → List ℕ → List ℕ → List ℕ
-putAt used text o = take used o ++ (text ++ drop (used + length text) o)
-
--- .. and from the start: "the rest of the buffer is as it came"
+-- text put over the bytes from the start: "the rest of the buffer is as it came"
 abbrev pub onto : List ℕ → List ℕ → List ℕ
 onto text o = text ++ drop (length text) o

@@ -4,7 +4,8 @@ ghost use mathlib.Core.Path.{_≡_};
 ghost use Prim.Native.Nat.{_+_, _≤_};
 ghost use lib.ListN.{length};
 ghost use Rattle.slots.specs.Time.{movedOn};
-ghost use Rattle.report.specs.Text.{putAt, fieldOf, fieldsOf, lineOf, mapLine, refusedLine, spanLine};
+ghost use Rattle.report.specs.Text.{fieldOf, fieldsOf, lineOf, mapLine, refusedLine, spanLine};
+ghost use Rattle.report.specs.Scan.{putAt};
 use crate::bodies::Row;
 use slots::Span;
 

@@ -55,7 +55,8 @@ use Rattle.slots.proofs.time.MiniSlot.Laws as N′
 use Rattle.station.specs.declared.record.Station.{Station}
 use Rattle.station.proofs.record.Station as T
 use Rattle.station.proofs.record.Station.Laws as T′
-use Rattle.lent.specs.Table.{placedOf, fitOf, tableOf, placesOf}
+use Rattle.lent.specs.Table.{placedOf, tableOf, placesOf}
+use Rattle.lent.specs.Scan.{fitOf}
 use Rattle.lent.specs.declared.table.Placed.{Placed}
 use Rattle.lent.specs.declared.table.Fit.{Fit}
 use Rattle.lent.proofs.Tabled.{none, goS, goP, within, fit-code, fit-S, fit-P}
