@@ -1,5 +1,5 @@
 -- The conversion: a mini-slot of at most 2^7 ticks, 64 counts each, and its count fits 64 bits.
-use mathlib.Core.Path.{_≡_, refl}
+use mathlib.Core.Path.{_≡_, refl, _∙_, ap}
 use mathlib.Core.Bool.{Bool, true, false, cond, _&&_}
 use Prim.Native.Nat.{ℕ, _*_, _%_, _^_, _≤_, _<_}
 use native.Mathlib.Nat.{mod-eq-of-lt, mul-assoc, mul-le-mul-left, one-mul}
@@ -7,8 +7,18 @@ use native.Mathlib.Omega.{arith}
 use lib.Pow.{pow-mono}
 use lib.Dec.{leb}
 use borrow.Author.Tests.{le-leb, lt-leb}
+use Rattle.slots.specs.declared.time.Begins.{Begins}
 use Rattle.slots.specs.declared.time.Begins.the-variants.{At, Size}
-use Rattle.slots.specs.Begins.{beginsAt}
+use Rattle.slots.specs.Begins.{sizeAllowed, beginsAt, numberOf, sizeFault}
+
+-- an answer that is the definition's stands for the number that the paper gives
+pub numbered : (n m : ℕ) (r : Begins) → r ≡ beginsAt n m → (r ≡ beginsAt n m) × (numberOf r ≡ sizeFault m)
+unfolding beginsAt sizeFault
+numbered n m r e = (e, ap numberOf e ∙ go (sizeAllowed m))
+  where
+    go : (b : Bool) → numberOf (cond b (At (record { 0 = n * 2 ^ m * 64 % 2 ^ 32 })) Size) ≡ cond b 0 17
+    go true = refl
+    go false = refl
 
 pub begins-small : (n m : ℕ) → m < 1 → Size ≡ beginsAt n m
 unfolding beginsAt

@@ -22,7 +22,7 @@ pub moved-on-unique : One moved-on.Post
 moved-on-unique κs a r r' s s' p q = λ i. record { 0 = (p ∙ sym q) i }
 
 pub begins-unique : One begins.Post
-begins-unique κs a r r' s s' p q = p ∙ sym q
+begins-unique κs a r r' s s' p q = p .0 ∙ sym (q .0)
 
 pub new-unique : One new.Post
 new-unique κs a r r' s s' p q = p ∙ sym q

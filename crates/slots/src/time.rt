@@ -2,7 +2,7 @@
 // and meet only in `begins`.
 ghost use mathlib.Core.Path.{_≡_};
 ghost use Rattle.slots.specs.Time.{ahead, earlier, movedOn};
-ghost use Rattle.slots.specs.Begins.{beginsAt};
+ghost use Rattle.slots.specs.Begins.{beginsAt, numberOf, sizeFault};
 
 // The count of mini-slots.
 pub struct MiniSlot(pub u32);
@@ -43,7 +43,7 @@ impl MiniSlot {
 
     // The timestamp at which this mini-slot begins, where a mini-slot is 2^m ticks.
     pub fn begins(self, m: u32) -> Begins
-        ensures { λ r. ⌜ r ≡ beginsAt (self .0) m ⌝ }
+        ensures { λ r. ⌜ (r ≡ beginsAt (self .0) m) × (numberOf r ≡ sizeFault m) ⌝ }
     {
         if m < MiniSlot::SMALLEST_M {
             return Begins::Size;

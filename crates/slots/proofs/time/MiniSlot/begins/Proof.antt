@@ -1,13 +1,13 @@
 use borrow.Author.Needs.{needs}
-use Rattle.slots.proofs.Converting.{begins-small, begins-large, counts-fit, count-fits, begins-at}
+use Rattle.slots.proofs.Converting.{numbered, begins-small, begins-large, counts-fit, count-fits, begins-at}
 use Rattle.slots.proofs.time.MiniSlot.begins.Statement.{statement}
 use Rattle.slots.proofs.time.MiniSlot.begins.Tie as tie
 
 returns : tie.Need-returns
-returns c = begins-small _ _ (c .if1 .taken)
+returns c = numbered _ _ _ (begins-small _ _ (c .if1 .taken))
 
 returns-2 : tie.Need-returns-2
-returns-2 c = begins-large _ _ (c .if2 .taken)
+returns-2 c = numbered _ _ _ (begins-large _ _ (c .if2 .taken))
 
 cast-count : tie.Need-cast-count
 cast-count c = search needs
@@ -25,7 +25,7 @@ cast-t9 : tie.Need-cast-t9
 cast-t9 c = search needs
 
 returns-3 : tie.Need-returns-3
-returns-3 c = begins-at _ (search needs) _ (search needs)
+returns-3 c = numbered _ _ _ (begins-at _ (search needs) _ (search needs))
 
 pub begins-spec : {M : Type 1} → statement M
 begins-spec =
