@@ -7,7 +7,7 @@ use native.Mathlib.Omega.{arith}
 use native.Mathlib.Nat.{div-add-mod', mod-eq-of-lt}
 use lib.Pow.{shr-shr, shr-lt}
 use lib.Dec.{leb, eqb}
-use borrow.Author.Tests.{leb-true, eqb-true, ltb-false, not-false}
+use borrow.Author.Tests.{leb-true, eqb-true, ltb-false, le-ltb, ne-eqb, not-false}
 use lib.ListN.{length, getD, take, drop, set, length-append, length-drop, take-append-drop}
 use lib.Seq.{getD-append-add, drop-cons, take-add, drop-drop, take-all, set-append-left, set-getD, getD-set-same, length-take-le, take-at}
 use Rattle.rules.specs.declared.element.Element.{Element}
@@ -286,6 +286,15 @@ module _ (s : List ℕ) (bytes : Bytes s) where
     pub only-then : written ≡ s → reservedOf s ≡ 0
     only-then e = ap (λ (l : List ℕ). getD l 3 0) (sym (sym writes-again ∙ e)) ∙ getD-set-same s 3 0 0 (omega arith)
 
+-- the writer takes whatever the reader accepts, where there is room for it
+pub takes-read : (s : List ℕ) (reading : Reading) → readOf s ≡ Accepted reading → (room : ℕ) → length s ≤ room → writtenOf (fieldsOf s) (mapOf s .elements) room ≡ Size (length s)
+unfolding writtenOf
+takes-read s reading w room h =
+    let a = accepted s reading w in
+    let some = a .sound .some in
+    let all : length (mapOf s .elements) ≡ countOf s = length-listed (elementIn s) 0 (countOf s) in
+    rw (all, ne-eqb (countOf s) 0 (λ z. omega arith), le-ltb 240 (countOf s) (a .sound .few), a .sound .backoffs, a .walk, sym (a .sound .fits), le-ltb room (length s) h) refl
+
 -- what was written reads back, and how much of the bytes it is
 module _ (f : Fields) (es : List Element) (old new : List ℕ) (size : ℕ) (r : Written) (answered : r ≡ writtenOf f es (length old)) (content : new ≡ writeInto f es old) (is : r ≡ Size size) where
   abbrev pub done : Writes f es (length old) size
@@ -303,27 +312,33 @@ module _ (f : Fields) (es : List Element) (old new : List ℕ) (size : ℕ) (r :
       let narrow : All Narrow es = whole-narrow (done .null) (done .end) 0 nothingYet es (λ c. absurd (let z : _≡_ {A = ℕ} 0 1 = cc in omega arith)) (done .walk) in
       (rw same (reads-back f fits es (done .few) (done .null) (done .end) (done .backoffs) (done .some) (done .walk)), rw same (λ i. record { fields = fields-back f fits es (done .few) i; elements = map-back f fits es (done .few) narrow i }))
 
--- the two functions, by their contracts: what `write` wrote, `read` reads with the same fields and elements
-module _ (κs : Lifetimes.Lfts 4) (a : World.ArgsD write'.signature κs) (r : World.ResD write'.signature κs) (s : Clauses.AtExit (Kinds'.endedOf 4 write-kinds.ps write-kinds.r) κs) (wrote : write.Post κs a r s) (size : ℕ) (is : r ≡ Size size)
+-- the two functions, by their contracts
+module _ (κs : Lifetimes.Lfts 4) (a : World.ArgsD write'.signature κs) (r : World.ResD write'.signature κs) (s : Clauses.AtExit (Kinds'.endedOf 4 write-kinds.ps write-kinds.r) κs) (wrote : write.Post κs a r s)
     (λs : Lifetimes.Lfts 1) (b : World.ArgsD read'.signature λs) (v : World.ResD read'.signature λs) (t : Clauses.AtExit (Kinds'.endedOf 1 read-kinds.ps read-kinds.r) λs) (found : read.Post λs b v t) where
   abbrev pub es : List Element
   es = elementsGiven (now (a .1 .0)) (now (a .1 .1 .0)) (now (a .1 .1 .1 .0))
 
-  pub read-after-write : Fits (a .0) → now (b .0) ≡ take size (now (s .1 .1 .1 .1 .0)) → (k : ℕ) × (l : ℕ) × (v ≡ Accepted (record { fields = a .0; n = length es; null = k; length = l })) × (mapOf (now (b .0)) ≡ record { fields = a .0; elements = es })
-  read-after-write fits same =
-      let old = now (a .1 .1 .1 .1 .0) in
-      let new = now (s .1 .1 .1 .1 .0) in
-      let d = done (a .0) es old new size r (wrote .0) (wrote .1) is in
-      let both = trip (a .0) es old new size r (wrote .0) (wrote .1) is fits (now (b .0)) same in
-      (d .null, d .end, found ∙ both .0, both .1)
+  -- what `read` accepted, `write` doesn't refuse where there is room for it
+  pub write-takes-read : (reading : Reading) → v ≡ Accepted reading → a .0 ≡ fieldsOf (now (b .0)) → es ≡ mapOf (now (b .0)) .elements → length (now (b .0)) ≤ length (now (a .1 .1 .1 .1 .0)) → r ≡ Size (length (now (b .0)))
+  write-takes-read reading accepts fields elements room = wrote .0 ∙ rw (fields, elements) (takes-read (now (b .0)) reading (sym found ∙ accepts) (length (now (a .1 .1 .1 .1 .0))) room)
 
-  -- .. and what `read` read, `write` writes again as the same bytes exactly when reserved was 0
-  module _ (bytes : Bytes (now (b .0))) (reading : Reading) (accepts : v ≡ Accepted reading) (fields : a .0 ≡ fieldsOf (now (b .0))) (elements : es ≡ mapOf (now (b .0)) .elements) where
-    again : (take size (now (s .1 .1 .1 .1 .0)) ≡ written (now (b .0)) bytes (countOf (now (b .0))) refl (accepted (now (b .0)) reading (sym found ∙ accepts) .sound .fits))
-    again = wrote-message (a .0) es (now (a .1 .1 .1 .1 .0)) (now (s .1 .1 .1 .1 .0)) size r (wrote .0) (wrote .1) is ∙ rw (fields, elements) refl
+  -- what `write` wrote, `read` reads with the same fields and elements
+  module _ (size : ℕ) (is : r ≡ Size size) where
+    pub read-after-write : Fits (a .0) → now (b .0) ≡ take size (now (s .1 .1 .1 .1 .0)) → (k : ℕ) × (l : ℕ) × (v ≡ Accepted (record { fields = a .0; n = length es; null = k; length = l })) × (mapOf (now (b .0)) ≡ record { fields = a .0; elements = es })
+    read-after-write fits same =
+        let old = now (a .1 .1 .1 .1 .0) in
+        let new = now (s .1 .1 .1 .1 .0) in
+        let d = done (a .0) es old new size r (wrote .0) (wrote .1) is in
+        let both = trip (a .0) es old new size r (wrote .0) (wrote .1) is fits (now (b .0)) same in
+        (d .null, d .end, found ∙ both .0, both .1)
 
-    pub write-after-read : reservedOf (now (b .0)) ≡ 0 → take size (now (s .1 .1 .1 .1 .0)) ≡ now (b .0)
-    write-after-read zero' = again ∙ same-bytes (now (b .0)) bytes (countOf (now (b .0))) refl (accepted (now (b .0)) reading (sym found ∙ accepts) .sound .fits) zero'
+    -- .. and what `read` read, `write` writes again as the same bytes exactly when reserved was 0
+    module _ (bytes : Bytes (now (b .0))) (reading : Reading) (accepts : v ≡ Accepted reading) (fields : a .0 ≡ fieldsOf (now (b .0))) (elements : es ≡ mapOf (now (b .0)) .elements) where
+      again : (take size (now (s .1 .1 .1 .1 .0)) ≡ written (now (b .0)) bytes (countOf (now (b .0))) refl (accepted (now (b .0)) reading (sym found ∙ accepts) .sound .fits))
+      again = wrote-message (a .0) es (now (a .1 .1 .1 .1 .0)) (now (s .1 .1 .1 .1 .0)) size r (wrote .0) (wrote .1) is ∙ rw (fields, elements) refl
 
-    pub reserved-zero : take size (now (s .1 .1 .1 .1 .0)) ≡ now (b .0) → reservedOf (now (b .0)) ≡ 0
-    reserved-zero e = only-then (now (b .0)) bytes (countOf (now (b .0))) refl (accepted (now (b .0)) reading (sym found ∙ accepts) .sound .fits) (sym again ∙ e)
+      pub write-after-read : reservedOf (now (b .0)) ≡ 0 → take size (now (s .1 .1 .1 .1 .0)) ≡ now (b .0)
+      write-after-read zero' = again ∙ same-bytes (now (b .0)) bytes (countOf (now (b .0))) refl (accepted (now (b .0)) reading (sym found ∙ accepts) .sound .fits) zero'
+
+      pub reserved-zero : take size (now (s .1 .1 .1 .1 .0)) ≡ now (b .0) → reservedOf (now (b .0)) ≡ 0
+      reserved-zero e = only-then (now (b .0)) bytes (countOf (now (b .0))) refl (accepted (now (b .0)) reading (sym found ∙ accepts) .sound .fits) (sym again ∙ e)
