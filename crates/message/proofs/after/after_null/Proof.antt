@@ -19,10 +19,10 @@ part-from-requires : tie.Need-part-from-requires
 part-from-requires c κs = search needs
 
 returns : tie.Need-returns
-returns c = part-accepted _ _ (c .before .before .before .before .read .ensures) _ _ (c .before .before .reading .given .1) (c .after-null .ensures)
+returns c = part-accepted _ _ (c .before .before .before .before .read .ensures) _ _ _ _ (c .before .before .reading .given .1) (c .after-null .ensures)
 
 returns-2 : tie.Need-returns-2
-returns-2 c = part-refused _ _ (c .before .before .before .read .ensures) _ _ (c .before .enum-told .given .1) (c .part-from .ensures)
+returns-2 c = part-refused _ _ (c .before .before .before .read .ensures) _ _ _ _ (c .before .enum-told .given .1) (c .part-from .ensures)
 
 pub after-null-spec : {M : Type 1} → statement M
 after-null-spec =
