@@ -1,4 +1,5 @@
-// The calls on one headend: each prints its answer and gives the headend after it.
+// The calls on one headend: each puts its answer into the lent line and gives the headend
+// after it.
 use crate::numbers::at_most;
 use crate::numbers::backoff_at;
 use crate::numbers::byte_at;
@@ -24,47 +25,47 @@ pub fn untouched() -> Headend {
     made.headend
 }
 
-pub fn call(h: Headend, word: u64, ns: &[u32]) -> Headend {
+pub fn call(h: Headend, word: u64, ns: &[u32], out: &mut [u8], used: &mut usize) -> Headend {
     match word {
-        words::HEADEND => set_up(h, ns),
-        words::HOLDING => shown(holding(ns)),
-        words::REQUEST => request(h, ns),
-        words::ISSUE => issue(h, ns),
+        words::HEADEND => set_up(h, ns, out, used),
+        words::HOLDING => shown(holding(ns), out, used),
+        words::REQUEST => request(h, ns, out, used),
+        words::ISSUE => issue(h, ns, out, used),
         // Only `held` is left.
-        _ => shown(h),
+        _ => shown(h, out, used),
     }
 }
 
-// The held requests, three numbers each.
-fn print_held(h: Headend) {
+// The first places, three numbers each.
+fn print_places(h: Headend, places: u32, out: &mut [u8], used: &mut usize) {
     let sids = h.sids;
     let sizes = h.sizes;
     let firsts = h.firsts;
-    let n = at_most(h.held as usize, 64);
+    let n = at_most(places as usize, 64);
     let mut i = 0;
     while i < n {
-        number(sids[i]);
-        pair(sizes[i], firsts[i]);
+        number(sids[i], out, used);
+        pair(sizes[i], firsts[i], out, used);
         i += 1;
     }
 }
 
-fn print(h: Headend) {
-    pair(h.next.0, h.ack.0);
-    pair(h.channel as u32, h.count as u32);
-    backoff(h.ranging);
-    backoff(h.data);
-    pair(h.short, h.held);
-    print_held(h);
+fn print(h: Headend, places: u32, out: &mut [u8], used: &mut usize) {
+    pair(h.next.0, h.ack.0, out, used);
+    pair(h.channel as u32, h.count as u32, out, used);
+    backoff(h.ranging, out, used);
+    backoff(h.data, out, used);
+    pair(h.short, h.held, out, used);
+    print_places(h, places, out, used);
 }
 
-fn shown(headend: Headend) -> Headend {
-    say(words::HEADEND);
-    print(headend);
+fn shown(headend: Headend, out: &mut [u8], used: &mut usize) -> Headend {
+    say(words::HEADEND, out, used);
+    print(headend, headend.held, out, used);
     headend
 }
 
-fn set_up(h: Headend, ns: &[u32]) -> Headend {
+fn set_up(h: Headend, ns: &[u32], out: &mut [u8], used: &mut usize) -> Headend {
     let made = Headend::new(
         MiniSlot(number_at(ns, 1)),
         byte_at(ns, 2),
@@ -75,10 +76,10 @@ fn set_up(h: Headend, ns: &[u32]) -> Headend {
     );
     let why = made.refusal;
     if why.number != 0 {
-        refused(why);
+        refused(why, out, used);
         return h;
     }
-    shown(made.headend)
+    shown(made.headend, out, used)
 }
 
 // One of the three columns of held requests.
@@ -104,43 +105,43 @@ fn holding(ns: &[u32]) -> Headend {
     }
 }
 
-fn taken(answer: Taken) {
+fn taken(answer: Taken, out: &mut [u8], used: &mut usize) {
     match answer {
-        Taken::Taken => say(words::TAKEN),
-        Taken::Refused(why) => refused(why),
+        Taken::Taken => say(words::TAKEN, out, used),
+        Taken::Refused(why) => refused(why, out, used),
     }
 }
 
-fn request(h: Headend, ns: &[u32]) -> Headend {
+fn request(h: Headend, ns: &[u32], out: &mut [u8], used: &mut usize) -> Headend {
     let first = MiniSlot(number_at(ns, 3));
     let taking = h.request(number_at(ns, 1), number_at(ns, 2), first);
     let answer = taking.answer;
-    taken(answer);
-    print(taking.headend);
+    taken(answer, out, used);
+    print(taking.headend, taking.headend.held, out, used);
     taking.headend
 }
 
-fn issued(answer: Issued) {
+fn issued(answer: Issued, out: &mut [u8], used: &mut usize) {
     match answer {
         Issued::Size(size) => {
-            say(words::ISSUED);
-            number(size);
+            say(words::ISSUED, out, used);
+            number(size, out, used);
         }
-        Issued::Refused(why) => refused(why),
+        Issued::Refused(why) => refused(why, out, used),
     }
 }
 
 // The answer, what the lent bytes hold then, and the headend.
-fn issue(h: Headend, ns: &[u32]) -> Headend {
+fn issue(h: Headend, ns: &[u32], out: &mut [u8], used: &mut usize) -> Headend {
     let mut bytes = [0xA5u8; 1000];
     let room = at_most(number_at(ns, 4) as usize, 1000);
     let lent = &mut bytes[0..room];
     let ack = MiniSlot(number_at(ns, 1));
     let issuing = issuing::issue(h, ack, number_at(ns, 2), number_at(ns, 3), lent);
     let answer = issuing.answer;
-    issued(answer);
-    say(words::SPACE);
-    hex(lent);
-    print(issuing.headend);
+    issued(answer, out, used);
+    say(words::SPACE, out, used);
+    hex(lent, out, used);
+    print(issuing.headend, issuing.headend.held, out, used);
     issuing.headend
 }

@@ -22,29 +22,60 @@ use numbers::first_bytes;
 use numbers::first_numbers;
 use places::Places;
 use print::say;
+use stream::Input;
 
 const MOST_INPUT: usize = 1048576;
 
+// The longest answer is that of a refused `issue`: 7 letters, 2 numbers of at most 11 bytes with
+// their space, ` x` and 2,000 digits, the headend's 4 numbers of 11 bytes, its 6 of 4 and 64 times 3
+// of 11, and the line's end, in all 4,212.
+const LONGEST_LINE: usize = 8192;
+
+// The places after a line, and whether its answer was written.
+struct Reply {
+    pub places: Places,
+    pub told: bool,
+}
+
+fn told(line: &[u8], used: usize) -> bool {
+    stream::tell_line(1, b"replay: standard output", line, used)
+}
+
 // The places after one line.
-fn answered(places: Places, line: &[u8]) -> Places {
+fn answered(places: Places, line: &[u8], out: &mut [u8], used: &mut usize) -> Places {
     let parsed = parse(line);
     let given = bytes_of(line, parsed.digits);
     let numbers = parsed.numbers;
     let bytes = given.bytes;
     let ns = first_numbers(&numbers, parsed.count);
     let word = called(parsed, given.size, ns);
-    places.call(word, ns, first_bytes(&bytes, given.size))
+    places.call(word, ns, first_bytes(&bytes, given.size), out, used)
 }
 
-// An empty line has no answer.
+// One write for each line.
+fn replied(places: Places, line: &[u8]) -> Reply {
+    let mut out = [0u8; LONGEST_LINE];
+    let mut used = 0;
+    let places = answered(places, line, &mut out, &mut used);
+    say(words::LINE_END, &mut out, &mut used);
+    Reply {
+        places,
+        told: told(&out, used),
+    }
+}
+
+// An empty line has no answer; where one can't be written, the run ends.
 fn run(script: &[u8]) {
     let mut places = Places::new();
     let mut at = 0;
     while at < script.len() {
         let end = end_before(script, at, b'\n');
         if at < end {
-            places = answered(places, &script[at..end]);
-            say(words::LINE_END);
+            let reply = replied(places, &script[at..end]);
+            if !reply.told {
+                return;
+            }
+            places = reply.places;
         }
         at = end + 1;
     }
@@ -60,10 +91,11 @@ fn input() -> [u8; 1048577]
 
 fn main() {
     let mut input = input();
-    let n = io::read_full(0, &mut input);
+    let Input::Bytes(n) = stream::whole(0, b"replay: standard input", &mut input) else {
+        return;
+    };
     if MOST_INPUT < n {
-        say(words::BAD);
-        say(words::LINE_END);
+        told(b"bad\n", 4);
         return;
     }
     run(&input[..n]);

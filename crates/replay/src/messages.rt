@@ -1,4 +1,4 @@
-// The calls on messages and on times: each prints its answer.
+// The calls on messages and on times: each puts its answer into the lent line.
 use crate::numbers::at_most;
 use crate::numbers::backoff_at;
 use crate::numbers::behind;
@@ -23,45 +23,45 @@ use slots::MiniSlot;
 use slots::Span;
 use writer::Written;
 
-pub fn call(word: u64, ns: &[u32], bytes: &[u8]) {
+pub fn call(word: u64, ns: &[u32], bytes: &[u8], out: &mut [u8], used: &mut usize) {
     match word {
-        words::READ => read(bytes),
-        words::AFTER => hex(message::after_null(bytes)),
-        words::GRANT => grant(ns, bytes),
-        words::WRITE => write(ns),
-        words::BEGINS => begins(ns),
-        words::EARLIER => earlier(ns),
-        words::SPAN => span(ns),
-        _ => say(words::BAD),
+        words::READ => read(bytes, out, used),
+        words::AFTER => hex(message::after_null(bytes), out, used),
+        words::GRANT => grant(ns, bytes, out, used),
+        words::WRITE => write(ns, out, used),
+        words::BEGINS => begins(ns, out, used),
+        words::EARLIER => earlier(ns, out, used),
+        words::SPAN => span(ns, out, used),
+        _ => say(words::BAD, out, used),
     }
 }
 
-fn read(bytes: &[u8]) {
+fn read(bytes: &[u8], out: &mut [u8], used: &mut usize) {
     match message::read(bytes) {
-        Verdict::Accepted(reading) => map(reading),
-        Verdict::Refused(why) => refused(why),
+        Verdict::Accepted(reading) => map(reading, out, used),
+        Verdict::Refused(why) => refused(why, out, used),
     }
 }
 
-fn map(reading: Reading) {
+fn map(reading: Reading, out: &mut [u8], used: &mut usize) {
     let fields = reading.fields;
-    say(words::MAP);
-    pair(fields.channel as u32, fields.count as u32);
-    number(reading.n);
-    pair(fields.start.0, fields.ack.0);
-    backoff(fields.ranging);
-    backoff(fields.data);
-    pair(reading.null, reading.length);
+    say(words::MAP, out, used);
+    pair(fields.channel as u32, fields.count as u32, out, used);
+    number(reading.n, out, used);
+    pair(fields.start.0, fields.ack.0, out, used);
+    backoff(fields.ranging, out, used);
+    backoff(fields.data, out, used);
+    pair(reading.null, reading.length, out, used);
 }
 
-fn grant(ns: &[u32], bytes: &[u8]) {
+fn grant(ns: &[u32], bytes: &[u8], out: &mut [u8], used: &mut usize) {
     match message::grant(bytes, number_at(ns, 0), number_at(ns, 1)) {
         Granted::At { first, length } => {
-            say(words::GRANT);
-            pair(first.0, length);
+            say(words::GRANT, out, used);
+            pair(first.0, length, out, used);
         }
-        Granted::Nowhere => say(words::NONE),
-        Granted::Refused(why) => refused(why),
+        Granted::Nowhere => say(words::NONE, out, used),
+        Granted::Refused(why) => refused(why, out, used),
     }
 }
 
@@ -97,62 +97,65 @@ fn written(ns: &[u32], lent: &mut [u8]) -> Written {
     )
 }
 
-fn wrote(answer: Written) {
+fn wrote(answer: Written, out: &mut [u8], used: &mut usize) {
     match answer {
         Written::Size(size) => {
-            say(words::WROTE);
-            number(size);
+            say(words::WROTE, out, used);
+            number(size, out, used);
         }
-        Written::Refused(why) => refused(why),
+        Written::Refused(why) => refused(why, out, used),
     }
 }
 
 // The answer, and then what the lent bytes hold.
-fn write(ns: &[u32]) {
+fn write(ns: &[u32], out: &mut [u8], used: &mut usize) {
     let mut bytes = [0xA5u8; 1000];
     let room = at_most(number_at(ns, 0) as usize, 1000);
     let lent = &mut bytes[0..room];
-    wrote(written(ns, lent));
-    say(words::SPACE);
-    hex(lent);
+    wrote(written(ns, lent), out, used);
+    say(words::SPACE, out, used);
+    hex(lent, out, used);
 }
 
-fn begins(ns: &[u32]) {
+fn begins(ns: &[u32], out: &mut [u8], used: &mut usize) {
     let slot = MiniSlot(number_at(ns, 0));
     match slot.begins(number_at(ns, 1)) {
         Begins::At(time) => {
-            say(words::BEGINS);
-            number(time.0);
+            say(words::BEGINS, out, used);
+            number(time.0, out, used);
         }
-        Begins::Size => refused(Refusal {
-            number: Refusal::SIZE,
-            element: 0,
-        }),
+        Begins::Size => {
+            let why = Refusal {
+                number: Refusal::SIZE,
+                element: 0,
+            };
+            refused(why, out, used)
+        }
     }
 }
 
-fn earlier(ns: &[u32]) {
+fn earlier(ns: &[u32], out: &mut [u8], used: &mut usize) {
     let a = MiniSlot(number_at(ns, 0));
     let b = MiniSlot(number_at(ns, 1));
     if a.earlier(b) {
-        say(words::YES);
+        say(words::YES, out, used);
         return;
     }
-    say(words::NO);
+    say(words::NO, out, used);
 }
 
-fn spanned(span: Span) {
-    say(words::SPAN);
+fn spanned(span: Span, out: &mut [u8], used: &mut usize) {
+    say(words::SPAN, out, used);
     match span {
         Span::Over { earliest, latest } => {
-            pair(earliest.0, latest.0);
+            pair(earliest.0, latest.0, out, used);
         }
-        Span::Nothing => none(),
-        Span::Lost => none(),
+        Span::Nothing => none(out, used),
+        Span::Lost => none(out, used),
     }
 }
 
-fn span(ns: &[u32]) {
+fn span(ns: &[u32], out: &mut [u8], used: &mut usize) {
     let mut span = Span::new();
     let mut left: u32 = 0;
     let mut i = 0;
@@ -164,6 +167,6 @@ fn span(ns: &[u32]) {
         span = added.span;
         i += 2;
     }
-    spanned(span);
-    number(left);
+    spanned(span, out, used);
+    number(left, out, used);
 }

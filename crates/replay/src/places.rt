@@ -24,37 +24,51 @@ impl Places {
         }
     }
 
-    pub fn call(self, word: u64, ns: &[u32], bytes: &[u8]) -> Places {
+    pub fn call(
+        self,
+        word: u64,
+        ns: &[u32],
+        bytes: &[u8],
+        out: &mut [u8],
+        used: &mut usize,
+    ) -> Places {
         match kept_at(word) {
-            Kept::Station => self.at_station(word, ns, bytes),
-            Kept::Stations => self.at_stations(ns, bytes),
-            Kept::Headend => self.at_headend(word, ns),
+            Kept::Station => self.at_station(word, ns, bytes, out, used),
+            Kept::Stations => self.at_stations(ns, bytes, out, used),
+            Kept::Headend => self.at_headend(word, ns, out, used),
             Kept::Nothing => {
-                messages::call(word, ns, bytes);
+                messages::call(word, ns, bytes, out, used);
                 self
             }
         }
     }
 
-    fn at_station(mut self, word: u64, ns: &[u32], bytes: &[u8]) -> Places {
+    fn at_station(
+        mut self,
+        word: u64,
+        ns: &[u32],
+        bytes: &[u8],
+        out: &mut [u8],
+        used: &mut usize,
+    ) -> Places {
         let mut stations = self.stations;
         let i = (number_at(ns, 0) % 40) as usize;
-        stations[i] = stations::call(stations[i], word, ns, bytes);
+        stations[i] = stations::call(stations[i], word, ns, bytes, out, used);
         self.stations = stations;
         self
     }
 
-    fn at_stations(mut self, ns: &[u32], bytes: &[u8]) -> Places {
+    fn at_stations(mut self, ns: &[u32], bytes: &[u8], out: &mut [u8], used: &mut usize) -> Places {
         let before = self.stations;
-        let stations = tables::call(before, ns, bytes);
+        let stations = tables::call(before, ns, bytes, out, used);
         self.stations = stations;
         self
     }
 
-    fn at_headend(mut self, word: u64, ns: &[u32]) -> Places {
+    fn at_headend(mut self, word: u64, ns: &[u32], out: &mut [u8], used: &mut usize) -> Places {
         let mut headends = self.headends;
         let i = (number_at(ns, 0) % 4) as usize;
-        headends[i] = headends::call(headends[i], word, ns);
+        headends[i] = headends::call(headends[i], word, ns, out, used);
         self.headends = headends;
         self
     }

@@ -1,4 +1,5 @@
-// The calls on one station: each prints its answer and gives the station after it.
+// The calls on one station: each puts its answer into the lent line and gives the station
+// after it.
 use crate::numbers::byte_at;
 use crate::numbers::number_at;
 use crate::print::none;
@@ -28,67 +29,83 @@ pub fn untouched() -> Station {
     }
 }
 
-pub fn call(st: Station, word: u64, ns: &[u32], bytes: &[u8]) -> Station {
+pub fn call(
+    st: Station,
+    word: u64,
+    ns: &[u32],
+    bytes: &[u8],
+    out: &mut [u8],
+    used: &mut usize,
+) -> Station {
     match word {
-        words::STATION => set_up(st, ns),
-        words::RECORD => shown(record(ns)),
-        words::OFFER => offer(st, ns),
-        words::HEAR => hear(st, ns, bytes),
+        words::STATION => set_up(st, ns, out, used),
+        words::RECORD => shown(record(ns), out, used),
+        words::OFFER => offer(st, ns, out, used),
+        words::HEAR => hear(st, ns, bytes, out, used),
         // Only `show` is left.
-        _ => shown(st),
+        _ => shown(st, out, used),
     }
 }
 
 // KNOWN END
-fn print_end(end: Remembered) {
+fn print_end(end: Remembered, out: &mut [u8], used: &mut usize) {
     match end {
-        Remembered::Nothing => pair(0, 0),
-        Remembered::End(time) => pair(1, time.0),
+        Remembered::Nothing => pair(0, 0, out, used),
+        Remembered::End(time) => pair(1, time.0, out, used),
     }
 }
 
-fn six(state: u32, size: u32, exponent: u32, left: u32, retries: u32, time: u32) {
-    pair(state, size);
-    pair(exponent, left);
-    pair(retries, time);
+fn six(
+    state: u32,
+    size: u32,
+    exponent: u32,
+    left: u32,
+    retries: u32,
+    time: u32,
+    out: &mut [u8],
+    used: &mut usize,
+) {
+    pair(state, size, out, used);
+    pair(exponent, left, out, used);
+    pair(retries, time, out, used);
 }
 
 // STATE SIZE EXPONENT LEFT RETRIES TIME: 0 where the phase has no such field.
-fn print_phase(phase: Phase) {
+fn print_phase(phase: Phase, out: &mut [u8], used: &mut usize) {
     match phase {
-        Phase::Idle => six(0, 0, 0, 0, 0, 0),
-        Phase::Wanting { size } => six(1, size, 0, 0, 0, 0),
+        Phase::Idle => six(0, 0, 0, 0, 0, 0, out, used),
+        Phase::Wanting { size } => six(1, size, 0, 0, 0, 0, out, used),
         Phase::Deferring {
             exponent,
             left,
             retries,
             size,
-        } => six(2, size, exponent, left, retries, 0),
+        } => six(2, size, exponent, left, retries, 0, out, used),
         Phase::Waiting {
             exponent,
             retries,
             time,
             size,
-        } => six(3, size, exponent, 0, retries, time.0),
+        } => six(3, size, exponent, 0, retries, time.0, out, used),
     }
 }
 
-fn print(st: Station) {
+fn print(st: Station, out: &mut [u8], used: &mut usize) {
     let end = st.end;
     let phase = st.phase;
-    pair(st.sid, st.channel as u32);
-    pair(st.count as u32, st.r);
-    print_end(end);
-    print_phase(phase);
+    pair(st.sid, st.channel as u32, out, used);
+    pair(st.count as u32, st.r, out, used);
+    print_end(end, out, used);
+    print_phase(phase, out, used);
 }
 
-fn shown(station: Station) -> Station {
-    say(words::STATION);
-    print(station);
+fn shown(station: Station, out: &mut [u8], used: &mut usize) -> Station {
+    say(words::STATION, out, used);
+    print(station, out, used);
     station
 }
 
-fn set_up(st: Station, ns: &[u32]) -> Station {
+fn set_up(st: Station, ns: &[u32], out: &mut [u8], used: &mut usize) -> Station {
     let made = Station::new(
         number_at(ns, 1),
         byte_at(ns, 2),
@@ -96,9 +113,9 @@ fn set_up(st: Station, ns: &[u32]) -> Station {
         number_at(ns, 4),
     );
     match made {
-        SetUp::Ready(station) => shown(station),
+        SetUp::Ready(station) => shown(station, out, used),
         SetUp::Refused(why) => {
-            refused(why);
+            refused(why, out, used);
             st
         }
     }
@@ -144,44 +161,44 @@ fn record(ns: &[u32]) -> Station {
     }
 }
 
-fn offered(answer: Offered) {
+fn offered(answer: Offered, out: &mut [u8], used: &mut usize) {
     match answer {
-        Offered::Taken => say(words::OFFERED),
-        Offered::Refused(why) => refused(why),
+        Offered::Taken => say(words::OFFERED, out, used),
+        Offered::Refused(why) => refused(why, out, used),
     }
 }
 
-fn offer(st: Station, ns: &[u32]) -> Station {
+fn offer(st: Station, ns: &[u32], out: &mut [u8], used: &mut usize) -> Station {
     let offering = st.offer(number_at(ns, 1));
     let answer = offering.answer;
-    offered(answer);
-    print(offering.station);
+    offered(answer, out, used);
+    print(offering.station, out, used);
     offering.station
 }
 
-fn sent(request: Sent) {
+fn sent(request: Sent, out: &mut [u8], used: &mut usize) {
     match request {
-        Sent::Nothing => none(),
-        Sent::At(first) => number(first.0),
+        Sent::Nothing => none(out, used),
+        Sent::At(first) => number(first.0, out, used),
     }
 }
 
-fn heard(answer: Answer) {
+fn heard(answer: Answer, out: &mut [u8], used: &mut usize) {
     match answer {
         Answer::Heard { bursts, request } => {
-            say(words::HEARD);
-            number(bursts);
-            sent(request);
+            say(words::HEARD, out, used);
+            number(bursts, out, used);
+            sent(request, out, used);
         }
-        Answer::Refused(why) => refused(why),
+        Answer::Refused(why) => refused(why, out, used),
     }
 }
 
-fn hear(st: Station, ns: &[u32], bytes: &[u8]) -> Station {
+fn hear(st: Station, ns: &[u32], bytes: &[u8], out: &mut [u8], used: &mut usize) -> Station {
     let draw = (number_at(ns, 2) % 65536) as u16;
     let hearing = hearing::hear(st, bytes, MiniSlot(number_at(ns, 1)), draw);
     let answer = hearing.answer;
-    heard(answer);
-    print(hearing.station);
+    heard(answer, out, used);
+    print(hearing.station, out, used);
     hearing.station
 }

@@ -22,7 +22,13 @@ fn draws_in(ns: &[u32]) -> [u16; 40] {
 }
 
 // The answer, and then what the places hold.
-pub fn call(stations: [Station; 40], ns: &[u32], bytes: &[u8]) -> [Station; 40] {
+pub fn call(
+    stations: [Station; 40],
+    ns: &[u32],
+    bytes: &[u8],
+    out: &mut [u8],
+    used: &mut usize,
+) -> [Station; 40] {
     let given = draws_in(ns);
     let n = at_most(behind(ns.len(), 4), 40);
     let draws = &given[0..n];
@@ -34,8 +40,8 @@ pub fn call(stations: [Station; 40], ns: &[u32], bytes: &[u8]) -> [Station; 40] 
     let present = MiniSlot(number_at(ns, 2));
     let heard = hear_forty(stations, first, count, bytes, present, draws, places);
     let after = heard.stations;
-    say(words::TABLE);
-    number(heard.code);
-    numbers(places);
+    say(words::TABLE, out, used);
+    number(heard.code, out, used);
+    numbers(places, out, used);
     after
 }

@@ -19,20 +19,20 @@ loop-holds c = search needs
 end-before-requires : tie.Need-end-before-requires Inv-loop μ-loop
 end-before-requires c κs = search needs
 
-sub-answered : tie.Need-sub-answered Inv-loop μ-loop
-sub-answered c = search needs
+sub-replied : tie.Need-sub-replied Inv-loop μ-loop
+sub-replied c = search needs
 
-part-answered-start : tie.Need-part-answered-start Inv-loop μ-loop
-part-answered-start c = search needs
+part-replied-start : tie.Need-part-replied-start Inv-loop μ-loop
+part-replied-start c = search needs
 
-part-answered-end : tie.Need-part-answered-end Inv-loop μ-loop
-part-answered-end c = search needs
+part-replied-end : tie.Need-part-replied-end Inv-loop μ-loop
+part-replied-end c = search needs
 
-answered-requires : tie.Need-answered-requires Inv-loop μ-loop
-answered-requires c κs = search needs
+replied-requires : tie.Need-replied-requires Inv-loop μ-loop
+replied-requires c κs = search needs
 
-say-requires : tie.Need-say-requires Inv-loop μ-loop
-say-requires c κs = search needs
+returns : tie.Need-returns Inv-loop μ-loop
+returns c = search needs
 
 add-at : tie.Need-add-at Inv-loop μ-loop
 add-at c = search needs
@@ -43,8 +43,8 @@ loop-less c = search needs
 loop-again : tie.Need-loop-again Inv-loop μ-loop
 loop-again c = search needs
 
-returns : tie.Need-returns Inv-loop μ-loop
-returns c = search needs
+returns-2 : tie.Need-returns-2 Inv-loop μ-loop
+returns-2 c = search needs
 
 pub run-spec : {M : Type 1} → statement M
 run-spec =
@@ -55,12 +55,12 @@ run-spec =
     new-requires
     loop-holds
     end-before-requires
-    sub-answered
-    part-answered-start
-    part-answered-end
-    answered-requires
-    say-requires
+    sub-replied
+    part-replied-start
+    part-replied-end
+    replied-requires
+    returns
     add-at
     loop-less
     loop-again
-    returns)
+    returns-2)

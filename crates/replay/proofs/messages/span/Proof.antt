@@ -5,10 +5,10 @@ use Rattle.replay.proofs.messages.span.Statement.{statement}
 use Rattle.replay.proofs.messages.span.Tie as tie
 
 abbrev Inv-loop : tie.InvT-loop
-Inv-loop ns span₀ left₀ i₀ span left i = 0 ≤ i
+Inv-loop ns out used span₀ left₀ i₀ span left i = 0 ≤ i
 
 abbrev μ-loop : tie.MeasureT-loop
-μ-loop ns span₀ left₀ i₀ span left i = length ns - i
+μ-loop ns out used span₀ left₀ i₀ span left i = length ns - i
 
 new-requires : tie.Need-new-requires Inv-loop μ-loop
 new-requires c κs = search needs
@@ -46,6 +46,9 @@ spanned-requires c κs = search needs
 number-requires : tie.Need-number-requires Inv-loop μ-loop
 number-requires c κs = search needs
 
+same-length : tie.Need-same-length Inv-loop μ-loop
+same-length c = search needs
+
 returns : tie.Need-returns Inv-loop μ-loop
 returns c = search needs
 
@@ -67,4 +70,5 @@ span-spec =
     loop-again
     spanned-requires
     number-requires
+    same-length
     returns)

@@ -6,10 +6,10 @@ use Rattle.replay.proofs.print.say.Statement.{statement}
 use Rattle.replay.proofs.print.say.Tie as tie
 
 abbrev Inv-loop : tie.InvT-loop
-Inv-loop word letters₀ rest₀ from₀ letters rest from = (length letters ≡ 8) × (from ≤ 8)
+Inv-loop word out used letters₀ rest₀ from₀ letters rest from = (length letters ≡ 8) × (from ≤ 8)
 
 abbrev μ-loop : tie.MeasureT-loop
-μ-loop word letters₀ rest₀ from₀ letters rest from = from
+μ-loop word out used letters₀ rest₀ from₀ letters rest from = from
 
 loop-holds : tie.Need-loop-holds Inv-loop μ-loop
 loop-holds c = search needs
@@ -29,17 +29,20 @@ loop-less c = search needs
 loop-again : tie.Need-loop-again Inv-loop μ-loop
 loop-again c = search needs
 
-sub-write-all : tie.Need-sub-write-all Inv-loop μ-loop
-sub-write-all c = search needs
+sub-put : tie.Need-sub-put Inv-loop μ-loop
+sub-put c = search needs
 
-part-write-all-start : tie.Need-part-write-all-start Inv-loop μ-loop
-part-write-all-start c = search needs
+part-put-start : tie.Need-part-put-start Inv-loop μ-loop
+part-put-start c = search needs
 
-part-write-all-end : tie.Need-part-write-all-end Inv-loop μ-loop
-part-write-all-end c = search needs
+part-put-end : tie.Need-part-put-end Inv-loop μ-loop
+part-put-end c = search needs
 
-write-all-requires : tie.Need-write-all-requires Inv-loop μ-loop
-write-all-requires c κs = search needs
+put-requires : tie.Need-put-requires Inv-loop μ-loop
+put-requires c κs = search needs
+
+same-length : tie.Need-same-length Inv-loop μ-loop
+same-length c = search needs
 
 returns : tie.Need-returns Inv-loop μ-loop
 returns c = search needs
@@ -56,8 +59,9 @@ say-spec =
     array-write-letters
     loop-less
     loop-again
-    sub-write-all
-    part-write-all-start
-    part-write-all-end
-    write-all-requires
+    sub-put
+    part-put-start
+    part-put-end
+    put-requires
+    same-length
     returns)

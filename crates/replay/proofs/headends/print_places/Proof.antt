@@ -1,16 +1,15 @@
 use borrow.Author.Needs.{needs}
 use Prim.Native.Nat.{_-_, _≤_}
-use Rattle.replay.proofs.headends.print_held.Statement.{statement}
-use Rattle.replay.proofs.headends.print_held.Tie as tie
+use lib.ListN.{length}
+use mathlib.Core.Path.{_≡_}
+use Rattle.replay.proofs.headends.print_places.Statement.{statement}
+use Rattle.replay.proofs.headends.print_places.Tie as tie
 
 abbrev Inv-loop : tie.InvT-loop
-Inv-loop sids sizes firsts n i₀ i = (i ≤ n) × (n ≤ 64)
+Inv-loop places out₀ used₀ sids sizes firsts n i₀ out used i = (length out ≡ length out₀) × (i ≤ n) × (n ≤ 64)
 
 abbrev μ-loop : tie.MeasureT-loop
-μ-loop sids sizes firsts n i₀ i = n - i
-
-cast-at-most : tie.Need-cast-at-most Inv-loop μ-loop
-cast-at-most c = search needs
+μ-loop places out₀ used₀ sids sizes firsts n i₀ out used i = n - i
 
 at-most-requires : tie.Need-at-most-requires Inv-loop μ-loop
 at-most-requires c κs = search needs
@@ -51,16 +50,18 @@ loop-less c = search needs
 loop-again : tie.Need-loop-again Inv-loop μ-loop
 loop-again c = search needs
 
+same-length : tie.Need-same-length Inv-loop μ-loop
+same-length c = search needs
+
 returns : tie.Need-returns Inv-loop μ-loop
 returns c = search needs
 
-pub print-held-spec : {M : Type 1} → statement M
-print-held-spec =
+pub print-places-spec : {M : Type 1} → statement M
+print-places-spec =
     tie.close
     (tie.spec
     Inv-loop
     μ-loop
-    cast-at-most
     at-most-requires
     loop-holds
     mul-number
@@ -74,4 +75,5 @@ print-held-spec =
     add-i
     loop-less
     loop-again
+    same-length
     returns)
