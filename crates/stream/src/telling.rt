@@ -27,7 +27,7 @@ pub fn tell_line(fd: i32, name: &[u8], line: &[u8], used: usize) -> bool
     ensures { λ r. ⌜ (length (now (line .entry)) < used → r ≡ false) ⌝ }
 {
     if line.len() < used {
-        complain(name, b"line too long");
+        complain(name, b"text too long");
         return false;
     }
     tell(fd, name, &line[0..used])
