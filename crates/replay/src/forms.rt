@@ -36,7 +36,8 @@ fn takes_bytes(word: u64) -> bool {
 fn takes_numbers(word: u64, n: usize) -> bool {
     match word {
         words::READ | words::AFTER => n == 0,
-        words::SHOW | words::HELD => n == 1,
+        words::SHOW => n == 1,
+        words::HELD => (n == 1) | (n == 2),
         words::BEGINS | words::EARLIER | words::GRANT | words::OFFER => n == 2,
         words::HEAR => n == 3,
         words::REQUEST => n == 4,
@@ -85,6 +86,7 @@ fn headend_in_range(word: u64, ns: &[u32]) -> bool {
     match word {
         words::HEADEND => place & all_within(ns, 2, 8, 255),
         words::HOLDING => place & all_within(ns, 3, 9, 255),
+        words::HELD => place & (number_at(ns, 1) <= 64),
         words::ISSUE => place & (number_at(ns, 4) <= 1000),
         _ => place,
     }

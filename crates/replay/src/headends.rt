@@ -28,11 +28,14 @@ pub fn untouched() -> Headend {
 pub fn call(h: Headend, word: u64, ns: &[u32], out: &mut [u8], used: &mut usize) -> Headend {
     match word {
         words::HEADEND => set_up(h, ns, out, used),
-        words::HOLDING => shown(holding(ns), out, used),
+        words::HOLDING => {
+            let h = holding(ns);
+            shown(h, h.held, out, used)
+        }
         words::REQUEST => request(h, ns, out, used),
         words::ISSUE => issue(h, ns, out, used),
         // Only `held` is left.
-        _ => shown(h, out, used),
+        _ => shown(h, places_asked(h, ns), out, used),
     }
 }
 
@@ -59,10 +62,18 @@ fn print(h: Headend, places: u32, out: &mut [u8], used: &mut usize) {
     print_places(h, places, out, used);
 }
 
-fn shown(headend: Headend, out: &mut [u8], used: &mut usize) -> Headend {
+fn shown(headend: Headend, places: u32, out: &mut [u8], used: &mut usize) -> Headend {
     say(words::HEADEND, out, used);
-    print(headend, headend.held, out, used);
+    print(headend, places, out, used);
     headend
+}
+
+// As many as the line says, spare ones too; else those that hold a request.
+fn places_asked(h: Headend, ns: &[u32]) -> u32 {
+    if ns.len() < 2 {
+        return h.held;
+    }
+    number_at(ns, 1)
 }
 
 fn set_up(h: Headend, ns: &[u32], out: &mut [u8], used: &mut usize) -> Headend {
@@ -79,7 +90,7 @@ fn set_up(h: Headend, ns: &[u32], out: &mut [u8], used: &mut usize) -> Headend {
         refused(why, out, used);
         return h;
     }
-    shown(made.headend, out, used)
+    shown(made.headend, made.headend.held, out, used)
 }
 
 // One of the three columns of held requests.
@@ -121,7 +132,7 @@ fn request(h: Headend, ns: &[u32], out: &mut [u8], used: &mut usize) -> Headend 
     taking.headend
 }
 
-fn issued(answer: Issued, out: &mut [u8], used: &mut usize) {
+fn sized(answer: Issued, out: &mut [u8], used: &mut usize) {
     match answer {
         Issued::Size(size) => {
             say(words::ISSUED, out, used);
@@ -131,7 +142,13 @@ fn issued(answer: Issued, out: &mut [u8], used: &mut usize) {
     }
 }
 
-// The answer, what the lent bytes hold then, and the headend.
+// The answer, and what the lent bytes hold then.
+fn issued(answer: Issued, lent: &[u8], out: &mut [u8], used: &mut usize) {
+    sized(answer, out, used);
+    say(words::SPACE, out, used);
+    hex(lent, out, used);
+}
+
 fn issue(h: Headend, ns: &[u32], out: &mut [u8], used: &mut usize) -> Headend {
     let mut bytes = [0xA5u8; 1000];
     let room = at_most(number_at(ns, 4) as usize, 1000);
@@ -139,9 +156,7 @@ fn issue(h: Headend, ns: &[u32], out: &mut [u8], used: &mut usize) -> Headend {
     let ack = MiniSlot(number_at(ns, 1));
     let issuing = issuing::issue(h, ack, number_at(ns, 2), number_at(ns, 3), lent);
     let answer = issuing.answer;
-    issued(answer, out, used);
-    say(words::SPACE, out, used);
-    hex(lent, out, used);
+    issued(answer, lent, out, used);
     print(issuing.headend, issuing.headend.held, out, used);
     issuing.headend
 }

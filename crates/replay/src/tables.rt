@@ -22,6 +22,12 @@ fn draws_in(ns: &[u32]) -> [u16; 40] {
 }
 
 // The answer, and then what the places hold.
+fn shown(code: u32, places: &[u32], out: &mut [u8], used: &mut usize) {
+    say(words::TABLE, out, used);
+    number(code, out, used);
+    numbers(places, out, used);
+}
+
 pub fn call(
     stations: [Station; 40],
     ns: &[u32],
@@ -40,8 +46,6 @@ pub fn call(
     let present = MiniSlot(number_at(ns, 2));
     let heard = hear_forty(stations, first, count, bytes, present, draws, places);
     let after = heard.stations;
-    say(words::TABLE, out, used);
-    number(heard.code, out, used);
-    numbers(places, out, used);
+    shown(heard.code, places, out, used);
     after
 }
