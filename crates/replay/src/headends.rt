@@ -1,10 +1,11 @@
-// The calls on one headend: each puts its answer into the lent line and gives the headend
+// The calls on one headend: each puts its answer into the lent room and gives the headend
 // after it.
 use crate::numbers::at_most;
 use crate::numbers::backoff_at;
 use crate::numbers::byte_at;
 use crate::numbers::column;
 use crate::numbers::number_at;
+use crate::print::Room;
 use crate::print::backoff;
 use crate::print::hex;
 use crate::print::number;
@@ -25,7 +26,7 @@ pub fn untouched() -> Headend {
     made.headend
 }
 
-pub fn call(h: Headend, word: u64, ns: &[u32], out: &mut [u8], used: &mut usize) -> Headend {
+pub fn call(h: Headend, word: u64, ns: &[u32], out: &mut Room, used: &mut usize) -> Headend {
     match word {
         words::HEADEND => set_up(h, ns, out, used),
         words::HOLDING => {
@@ -40,7 +41,7 @@ pub fn call(h: Headend, word: u64, ns: &[u32], out: &mut [u8], used: &mut usize)
 }
 
 // The first places, three numbers each.
-fn print_places(h: Headend, places: u32, out: &mut [u8], used: &mut usize) {
+fn print_places(h: Headend, places: u32, out: &mut Room, used: &mut usize) {
     let sids = h.sids;
     let sizes = h.sizes;
     let firsts = h.firsts;
@@ -53,7 +54,7 @@ fn print_places(h: Headend, places: u32, out: &mut [u8], used: &mut usize) {
     }
 }
 
-fn print(h: Headend, places: u32, out: &mut [u8], used: &mut usize) {
+fn print(h: Headend, places: u32, out: &mut Room, used: &mut usize) {
     pair(h.next.0, h.ack.0, out, used);
     pair(h.channel as u32, h.count as u32, out, used);
     backoff(h.ranging, out, used);
@@ -62,7 +63,7 @@ fn print(h: Headend, places: u32, out: &mut [u8], used: &mut usize) {
     print_places(h, places, out, used);
 }
 
-fn shown(headend: Headend, places: u32, out: &mut [u8], used: &mut usize) -> Headend {
+fn shown(headend: Headend, places: u32, out: &mut Room, used: &mut usize) -> Headend {
     say(words::HEADEND, out, used);
     print(headend, places, out, used);
     headend
@@ -76,7 +77,7 @@ fn places_asked(h: Headend, ns: &[u32]) -> u32 {
     number_at(ns, 1)
 }
 
-fn set_up(h: Headend, ns: &[u32], out: &mut [u8], used: &mut usize) -> Headend {
+fn set_up(h: Headend, ns: &[u32], out: &mut Room, used: &mut usize) -> Headend {
     let made = Headend::new(
         MiniSlot(number_at(ns, 1)),
         byte_at(ns, 2),
@@ -116,14 +117,14 @@ fn holding(ns: &[u32]) -> Headend {
     }
 }
 
-fn taken(answer: Taken, out: &mut [u8], used: &mut usize) {
+fn taken(answer: Taken, out: &mut Room, used: &mut usize) {
     match answer {
         Taken::Taken => say(words::TAKEN, out, used),
         Taken::Refused(why) => refused(why, out, used),
     }
 }
 
-fn request(h: Headend, ns: &[u32], out: &mut [u8], used: &mut usize) -> Headend {
+fn request(h: Headend, ns: &[u32], out: &mut Room, used: &mut usize) -> Headend {
     let first = MiniSlot(number_at(ns, 3));
     let taking = h.request(number_at(ns, 1), number_at(ns, 2), first);
     let answer = taking.answer;
@@ -132,7 +133,7 @@ fn request(h: Headend, ns: &[u32], out: &mut [u8], used: &mut usize) -> Headend 
     taking.headend
 }
 
-fn sized(answer: Issued, out: &mut [u8], used: &mut usize) {
+fn sized(answer: Issued, out: &mut Room, used: &mut usize) {
     match answer {
         Issued::Size(size) => {
             say(words::ISSUED, out, used);
@@ -143,13 +144,13 @@ fn sized(answer: Issued, out: &mut [u8], used: &mut usize) {
 }
 
 // The answer, and what the lent bytes hold then.
-fn issued(answer: Issued, lent: &[u8], out: &mut [u8], used: &mut usize) {
+fn issued(answer: Issued, lent: &[u8], out: &mut Room, used: &mut usize) {
     sized(answer, out, used);
     say(words::SPACE, out, used);
     hex(lent, out, used);
 }
 
-fn issue(h: Headend, ns: &[u32], out: &mut [u8], used: &mut usize) -> Headend {
+fn issue(h: Headend, ns: &[u32], out: &mut Room, used: &mut usize) -> Headend {
     let mut bytes = [0xA5u8; 1000];
     let room = at_most(number_at(ns, 4) as usize, 1000);
     let lent = &mut bytes[0..room];

@@ -21,15 +21,11 @@ use line::parse;
 use numbers::first_bytes;
 use numbers::first_numbers;
 use places::Places;
+use print::Room;
 use print::say;
 use stream::Input;
 
 const MOST_INPUT: usize = 1048576;
-
-// The longest answer is that of a refused `issue`: 7 letters, 2 numbers of at most 11 bytes with
-// their space, ` x` and 2,000 digits, the headend's 4 numbers of 11 bytes, its 6 of 4 and 64 times 3
-// of 11, and the line's end, in all 4,212.
-const LONGEST_LINE: usize = 8192;
 
 // The places after a line, and whether its answer was written.
 struct Reply {
@@ -37,12 +33,12 @@ struct Reply {
     pub told: bool,
 }
 
-fn told(line: &[u8], used: usize) -> bool {
-    stream::tell_line(1, b"replay: standard output", line, used)
+fn told(out: &Room, used: usize) -> bool {
+    stream::tell_line(1, b"replay: standard output", out, used)
 }
 
 // The places after one line.
-fn answered(places: Places, line: &[u8], out: &mut [u8], used: &mut usize) -> Places {
+fn answered(places: Places, line: &[u8], out: &mut Room, used: &mut usize) -> Places {
     let parsed = parse(line);
     let given = bytes_of(line, parsed.digits);
     let numbers = parsed.numbers;
@@ -54,7 +50,7 @@ fn answered(places: Places, line: &[u8], out: &mut [u8], used: &mut usize) -> Pl
 
 // One write for each line.
 fn replied(places: Places, line: &[u8]) -> Reply {
-    let mut out = [0u8; LONGEST_LINE];
+    let mut out: Room = [0; 8192];
     let mut used = 0;
     let places = answered(places, line, &mut out, &mut used);
     say(words::LINE_END, &mut out, &mut used);
@@ -94,8 +90,9 @@ fn main() {
     let Input::Bytes(n) = stream::whole(0, b"replay: standard input", &mut input) else {
         return;
     };
+    // Answered as one line that is no call.
     if MOST_INPUT < n {
-        told(b"bad\n", 4);
+        run(b"bad");
         return;
     }
     run(&input[..n]);

@@ -1,10 +1,11 @@
-// The calls on messages and on times: each puts its answer into the lent line.
+// The calls on messages and on times: each puts its answer into the lent room.
 use crate::numbers::at_most;
 use crate::numbers::backoff_at;
 use crate::numbers::behind;
 use crate::numbers::byte_at;
 use crate::numbers::column;
 use crate::numbers::number_at;
+use crate::print::Room;
 use crate::print::backoff;
 use crate::print::hex;
 use crate::print::none;
@@ -23,7 +24,7 @@ use slots::MiniSlot;
 use slots::Span;
 use writer::Written;
 
-pub fn call(word: u64, ns: &[u32], bytes: &[u8], out: &mut [u8], used: &mut usize) {
+pub fn call(word: u64, ns: &[u32], bytes: &[u8], out: &mut Room, used: &mut usize) {
     match word {
         words::READ => read(bytes, out, used),
         words::AFTER => hex(message::after_null(bytes), out, used),
@@ -36,14 +37,14 @@ pub fn call(word: u64, ns: &[u32], bytes: &[u8], out: &mut [u8], used: &mut usiz
     }
 }
 
-fn read(bytes: &[u8], out: &mut [u8], used: &mut usize) {
+fn read(bytes: &[u8], out: &mut Room, used: &mut usize) {
     match message::read(bytes) {
         Verdict::Accepted(reading) => map(reading, out, used),
         Verdict::Refused(why) => refused(why, out, used),
     }
 }
 
-fn map(reading: Reading, out: &mut [u8], used: &mut usize) {
+fn map(reading: Reading, out: &mut Room, used: &mut usize) {
     let fields = reading.fields;
     say(words::MAP, out, used);
     pair(fields.channel as u32, fields.count as u32, out, used);
@@ -54,7 +55,7 @@ fn map(reading: Reading, out: &mut [u8], used: &mut usize) {
     pair(reading.null, reading.length, out, used);
 }
 
-fn grant(ns: &[u32], bytes: &[u8], out: &mut [u8], used: &mut usize) {
+fn grant(ns: &[u32], bytes: &[u8], out: &mut Room, used: &mut usize) {
     match message::grant(bytes, number_at(ns, 0), number_at(ns, 1)) {
         Granted::At { first, length } => {
             say(words::GRANT, out, used);
@@ -97,7 +98,7 @@ fn written(ns: &[u32], lent: &mut [u8]) -> Written {
     )
 }
 
-fn wrote(answer: Written, out: &mut [u8], used: &mut usize) {
+fn wrote(answer: Written, out: &mut Room, used: &mut usize) {
     match answer {
         Written::Size(size) => {
             say(words::WROTE, out, used);
@@ -108,7 +109,7 @@ fn wrote(answer: Written, out: &mut [u8], used: &mut usize) {
 }
 
 // The answer, and then what the lent bytes hold.
-fn write(ns: &[u32], out: &mut [u8], used: &mut usize) {
+fn write(ns: &[u32], out: &mut Room, used: &mut usize) {
     let mut bytes = [0xA5u8; 1000];
     let room = at_most(number_at(ns, 0) as usize, 1000);
     let lent = &mut bytes[0..room];
@@ -117,7 +118,7 @@ fn write(ns: &[u32], out: &mut [u8], used: &mut usize) {
     hex(lent, out, used);
 }
 
-fn begins(ns: &[u32], out: &mut [u8], used: &mut usize) {
+fn begins(ns: &[u32], out: &mut Room, used: &mut usize) {
     let slot = MiniSlot(number_at(ns, 0));
     match slot.begins(number_at(ns, 1)) {
         Begins::At(time) => {
@@ -134,7 +135,7 @@ fn begins(ns: &[u32], out: &mut [u8], used: &mut usize) {
     }
 }
 
-fn earlier(ns: &[u32], out: &mut [u8], used: &mut usize) {
+fn earlier(ns: &[u32], out: &mut Room, used: &mut usize) {
     let a = MiniSlot(number_at(ns, 0));
     let b = MiniSlot(number_at(ns, 1));
     if a.earlier(b) {
@@ -144,7 +145,7 @@ fn earlier(ns: &[u32], out: &mut [u8], used: &mut usize) {
     say(words::NO, out, used);
 }
 
-fn spanned(span: Span, out: &mut [u8], used: &mut usize) {
+fn spanned(span: Span, out: &mut Room, used: &mut usize) {
     say(words::SPAN, out, used);
     match span {
         Span::Over { earliest, latest } => {
@@ -155,7 +156,7 @@ fn spanned(span: Span, out: &mut [u8], used: &mut usize) {
     }
 }
 
-fn span(ns: &[u32], out: &mut [u8], used: &mut usize) {
+fn span(ns: &[u32], out: &mut Room, used: &mut usize) {
     let mut span = Span::new();
     let mut left: u32 = 0;
     let mut i = 0;

@@ -4,6 +4,7 @@ use crate::forms::kept_at;
 use crate::headends;
 use crate::messages;
 use crate::numbers::number_at;
+use crate::print::Room;
 use crate::stations;
 use crate::tables;
 use headend::Headend;
@@ -29,7 +30,7 @@ impl Places {
         word: u64,
         ns: &[u32],
         bytes: &[u8],
-        out: &mut [u8],
+        out: &mut Room,
         used: &mut usize,
     ) -> Places {
         match kept_at(word) {
@@ -48,7 +49,7 @@ impl Places {
         word: u64,
         ns: &[u32],
         bytes: &[u8],
-        out: &mut [u8],
+        out: &mut Room,
         used: &mut usize,
     ) -> Places {
         let mut stations = self.stations;
@@ -58,14 +59,14 @@ impl Places {
         self
     }
 
-    fn at_stations(mut self, ns: &[u32], bytes: &[u8], out: &mut [u8], used: &mut usize) -> Places {
+    fn at_stations(mut self, ns: &[u32], bytes: &[u8], out: &mut Room, used: &mut usize) -> Places {
         let before = self.stations;
         let stations = tables::call(before, ns, bytes, out, used);
         self.stations = stations;
         self
     }
 
-    fn at_headend(mut self, word: u64, ns: &[u32], out: &mut [u8], used: &mut usize) -> Places {
+    fn at_headend(mut self, word: u64, ns: &[u32], out: &mut Room, used: &mut usize) -> Places {
         let mut headends = self.headends;
         let i = (number_at(ns, 0) % 4) as usize;
         headends[i] = headends::call(headends[i], word, ns, out, used);

@@ -1,7 +1,8 @@
-// The calls on one station: each puts its answer into the lent line and gives the station
+// The calls on one station: each puts its answer into the lent room and gives the station
 // after it.
 use crate::numbers::byte_at;
 use crate::numbers::number_at;
+use crate::print::Room;
 use crate::print::none;
 use crate::print::number;
 use crate::print::pair;
@@ -34,7 +35,7 @@ pub fn call(
     word: u64,
     ns: &[u32],
     bytes: &[u8],
-    out: &mut [u8],
+    out: &mut Room,
     used: &mut usize,
 ) -> Station {
     match word {
@@ -48,7 +49,7 @@ pub fn call(
 }
 
 // KNOWN END
-fn print_end(end: Remembered, out: &mut [u8], used: &mut usize) {
+fn print_end(end: Remembered, out: &mut Room, used: &mut usize) {
     match end {
         Remembered::Nothing => pair(0, 0, out, used),
         Remembered::End(time) => pair(1, time.0, out, used),
@@ -62,7 +63,7 @@ fn six(
     left: u32,
     retries: u32,
     time: u32,
-    out: &mut [u8],
+    out: &mut Room,
     used: &mut usize,
 ) {
     pair(state, size, out, used);
@@ -71,7 +72,7 @@ fn six(
 }
 
 // STATE SIZE EXPONENT LEFT RETRIES TIME: 0 where the phase has no such field.
-fn print_phase(phase: Phase, out: &mut [u8], used: &mut usize) {
+fn print_phase(phase: Phase, out: &mut Room, used: &mut usize) {
     match phase {
         Phase::Idle => six(0, 0, 0, 0, 0, 0, out, used),
         Phase::Wanting { size } => six(1, size, 0, 0, 0, 0, out, used),
@@ -90,7 +91,7 @@ fn print_phase(phase: Phase, out: &mut [u8], used: &mut usize) {
     }
 }
 
-fn print(st: Station, out: &mut [u8], used: &mut usize) {
+fn print(st: Station, out: &mut Room, used: &mut usize) {
     let end = st.end;
     let phase = st.phase;
     pair(st.sid, st.channel as u32, out, used);
@@ -99,13 +100,13 @@ fn print(st: Station, out: &mut [u8], used: &mut usize) {
     print_phase(phase, out, used);
 }
 
-fn shown(station: Station, out: &mut [u8], used: &mut usize) -> Station {
+fn shown(station: Station, out: &mut Room, used: &mut usize) -> Station {
     say(words::STATION, out, used);
     print(station, out, used);
     station
 }
 
-fn set_up(st: Station, ns: &[u32], out: &mut [u8], used: &mut usize) -> Station {
+fn set_up(st: Station, ns: &[u32], out: &mut Room, used: &mut usize) -> Station {
     let made = Station::new(
         number_at(ns, 1),
         byte_at(ns, 2),
@@ -161,14 +162,14 @@ fn record(ns: &[u32]) -> Station {
     }
 }
 
-fn offered(answer: Offered, out: &mut [u8], used: &mut usize) {
+fn offered(answer: Offered, out: &mut Room, used: &mut usize) {
     match answer {
         Offered::Taken => say(words::OFFERED, out, used),
         Offered::Refused(why) => refused(why, out, used),
     }
 }
 
-fn offer(st: Station, ns: &[u32], out: &mut [u8], used: &mut usize) -> Station {
+fn offer(st: Station, ns: &[u32], out: &mut Room, used: &mut usize) -> Station {
     let offering = st.offer(number_at(ns, 1));
     let answer = offering.answer;
     offered(answer, out, used);
@@ -176,14 +177,14 @@ fn offer(st: Station, ns: &[u32], out: &mut [u8], used: &mut usize) -> Station {
     offering.station
 }
 
-fn sent(request: Sent, out: &mut [u8], used: &mut usize) {
+fn sent(request: Sent, out: &mut Room, used: &mut usize) {
     match request {
         Sent::Nothing => none(out, used),
         Sent::At(first) => number(first.0, out, used),
     }
 }
 
-fn heard(answer: Answer, out: &mut [u8], used: &mut usize) {
+fn heard(answer: Answer, out: &mut Room, used: &mut usize) {
     match answer {
         Answer::Heard { bursts, request } => {
             say(words::HEARD, out, used);
@@ -194,7 +195,7 @@ fn heard(answer: Answer, out: &mut [u8], used: &mut usize) {
     }
 }
 
-fn hear(st: Station, ns: &[u32], bytes: &[u8], out: &mut [u8], used: &mut usize) -> Station {
+fn hear(st: Station, ns: &[u32], bytes: &[u8], out: &mut Room, used: &mut usize) -> Station {
     let draw = (number_at(ns, 2) % 65536) as u16;
     let hearing = hearing::hear(st, bytes, MiniSlot(number_at(ns, 1)), draw);
     let answer = hearing.answer;

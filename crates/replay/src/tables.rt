@@ -2,6 +2,7 @@
 use crate::numbers::at_most;
 use crate::numbers::behind;
 use crate::numbers::number_at;
+use crate::print::Room;
 use crate::print::number;
 use crate::print::numbers;
 use crate::print::say;
@@ -22,7 +23,7 @@ fn draws_in(ns: &[u32]) -> [u16; 40] {
 }
 
 // The answer, and then what the places hold.
-fn shown(code: u32, places: &[u32], out: &mut [u8], used: &mut usize) {
+fn shown(code: u32, places: &[u32], out: &mut Room, used: &mut usize) {
     say(words::TABLE, out, used);
     number(code, out, used);
     numbers(places, out, used);
@@ -32,7 +33,7 @@ pub fn call(
     stations: [Station; 40],
     ns: &[u32],
     bytes: &[u8],
-    out: &mut [u8],
+    out: &mut Room,
     used: &mut usize,
 ) -> [Station; 40] {
     let given = draws_in(ns);

@@ -24,11 +24,11 @@ enum-told c = search needs
 returns : tie.Need-returns
 returns c = search needs
 
-slice-aggregate-told : tie.Need-slice-aggregate-told
-slice-aggregate-told c = search needs
+slice-aggregate-run : tie.Need-slice-aggregate-run
+slice-aggregate-run c = search needs
 
-told-requires : tie.Need-told-requires
-told-requires c κs = search needs
+run-requires : tie.Need-run-requires
+run-requires c κs = search needs
 
 returns-2 : tie.Need-returns-2
 returns-2 c = search needs
@@ -36,11 +36,11 @@ returns-2 c = search needs
 array-share-prefix-input : tie.Need-array-share-prefix-input
 array-share-prefix-input c = search needs
 
-slice-aggregate-run : tie.Need-slice-aggregate-run
-slice-aggregate-run c = counted _ _ _ (c .before .before .before .before .before .before .whole .ensures) (c .before .before .before .n .given .1) .1
+slice-aggregate-run-2 : tie.Need-slice-aggregate-run-2
+slice-aggregate-run-2 c = counted _ _ _ (c .before .before .before .before .before .before .whole .ensures) (c .before .before .before .n .given .1) .1
 
-run-requires : tie.Need-run-requires
-run-requires c κs = search needs
+run-requires-2 : tie.Need-run-requires-2
+run-requires-2 c κs = search needs
 
 returns-3 : tie.Need-returns-3
 returns-3 c = search needs
@@ -56,10 +56,10 @@ main-spec =
     enum-known-n
     enum-told
     returns
-    slice-aggregate-told
-    told-requires
-    returns-2
-    array-share-prefix-input
     slice-aggregate-run
     run-requires
+    returns-2
+    array-share-prefix-input
+    slice-aggregate-run-2
+    run-requires-2
     returns-3)

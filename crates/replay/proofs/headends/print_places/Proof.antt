@@ -1,12 +1,10 @@
 use borrow.Author.Needs.{needs}
 use Prim.Native.Nat.{_-_, _≤_}
-use lib.ListN.{length}
-use mathlib.Core.Path.{_≡_}
 use Rattle.replay.proofs.headends.print_places.Statement.{statement}
 use Rattle.replay.proofs.headends.print_places.Tie as tie
 
 abbrev Inv-loop : tie.InvT-loop
-Inv-loop places out₀ used₀ sids sizes firsts n i₀ out used i = (length out ≡ length out₀) × (i ≤ n) × (n ≤ 64)
+Inv-loop places out₀ used₀ sids sizes firsts n i₀ out used i = (i ≤ n) × (n ≤ 64)
 
 abbrev μ-loop : tie.MeasureT-loop
 μ-loop places out₀ used₀ sids sizes firsts n i₀ out used i = n - i
@@ -50,9 +48,6 @@ loop-less c = search needs
 loop-again : tie.Need-loop-again Inv-loop μ-loop
 loop-again c = search needs
 
-same-length : tie.Need-same-length Inv-loop μ-loop
-same-length c = search needs
-
 returns : tie.Need-returns Inv-loop μ-loop
 returns c = search needs
 
@@ -75,5 +70,4 @@ print-places-spec =
     add-i
     loop-less
     loop-again
-    same-length
     returns)

@@ -46,9 +46,6 @@ spanned-requires c κs = search needs
 number-requires : tie.Need-number-requires Inv-loop μ-loop
 number-requires c κs = search needs
 
-same-length : tie.Need-same-length Inv-loop μ-loop
-same-length c = search needs
-
 returns : tie.Need-returns Inv-loop μ-loop
 returns c = search needs
 
@@ -70,5 +67,4 @@ span-spec =
     loop-again
     spanned-requires
     number-requires
-    same-length
     returns)

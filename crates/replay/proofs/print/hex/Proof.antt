@@ -1,12 +1,11 @@
 use borrow.Author.Needs.{needs}
 use Prim.Native.Nat.{_-_, _≤_}
 use lib.ListN.{length}
-use mathlib.Core.Path.{_≡_}
 use Rattle.replay.proofs.print.hex.Statement.{statement}
 use Rattle.replay.proofs.print.hex.Tie as tie
 
 abbrev Inv-loop : tie.InvT-loop
-Inv-loop bytes out₀ used₀ i₀ out used i = (length out ≡ length out₀) × (i ≤ length bytes)
+Inv-loop bytes out₀ used₀ i₀ out used i = i ≤ length bytes
 
 abbrev μ-loop : tie.MeasureT-loop
 μ-loop bytes out₀ used₀ i₀ out used i = length bytes - i
@@ -32,9 +31,6 @@ loop-less c = search needs
 loop-again : tie.Need-loop-again Inv-loop μ-loop
 loop-again c = search needs
 
-same-length : tie.Need-same-length Inv-loop μ-loop
-same-length c = search needs
-
 returns : tie.Need-returns Inv-loop μ-loop
 returns c = search needs
 
@@ -51,5 +47,4 @@ hex-spec =
     add-i
     loop-less
     loop-again
-    same-length
     returns)

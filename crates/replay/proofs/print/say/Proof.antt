@@ -41,9 +41,6 @@ part-put-end c = search needs
 put-requires : tie.Need-put-requires Inv-loop μ-loop
 put-requires c κs = search needs
 
-same-length : tie.Need-same-length Inv-loop μ-loop
-same-length c = search needs
-
 returns : tie.Need-returns Inv-loop μ-loop
 returns c = search needs
 
@@ -63,5 +60,4 @@ say-spec =
     part-put-start
     part-put-end
     put-requires
-    same-length
     returns)
