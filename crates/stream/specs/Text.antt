@@ -21,7 +21,7 @@ tooMany = 18446744073709551615
 unfoldable pub usedWith : ℕ → List ℕ → List ℕ → ℕ
 usedWith used text o = cond (fits used text o) (used + length text) tooMany
 
--- the first number of digits, from k on, that hold n; more of these are tried at most
+-- the first number of digits from k on that hold n; so many more than k are tried at most
 unfoldable pub placesFrom : ℕ → ℕ → ℕ → ℕ → ℕ
 placesFrom zero base k n = k
 placesFrom (suc more) base k n = cond (ltb n (base ^ k)) k (placesFrom more base (k + 1) n)

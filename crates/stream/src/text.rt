@@ -1,9 +1,9 @@
-// Text put together in lent bytes. `used` is how many of them are taken; one that had no room is
-// never cut: it leaves the bytes as they were, and `used` over every room for good.
+// Text put together in lent bytes, of which so many are used. A text that has no room is never cut:
+// it leaves the bytes as they were, and `used` over every room for good.
 ghost use mathlib.Core.Path.{_≡_};
 ghost use Rattle.stream.specs.Text.{bytesWith, usedWith, decimalOf, hexOf};
 
-// Over the room of all lent bytes.
+// More than any lent bytes.
 const TOO_MANY: usize = 18446744073709551615;
 
 pub fn put(text: &[u8], out: &mut [u8], used: &mut usize)
