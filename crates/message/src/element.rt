@@ -1,7 +1,7 @@
 // An information element in a message: SID 14 bits, use (IUC) 4 bits, offset 14 bits.
 ghost use mathlib.Core.Path.{_≡_};
 ghost use Prim.Native.Nat.{_+_, _*_, _/_, _%_, _≤_, _<_};
-ghost use lib.ListN.{length, getD};
+ghost use lib.ListN.{length};
 ghost use Rattle.message.specs.Element.{wordAt, elementOf, elementIn, elementAt};
 use rules::Element;
 
@@ -48,14 +48,13 @@ pub(crate) fn word_at(bytes: &[u8], at: usize) -> u32
     requires { ⌜ at + 4 ≤ length (now bytes) ⌝ }
     ensures { λ r. ⌜ r ≡ wordAt (now (bytes .entry)) at ⌝ }
 {
-    let four = [bytes[at], bytes[at + 1], bytes[at + 2], bytes[at + 3]];
-    turned(least_first(four))
+    turned(least_first(bytes[at], bytes[at + 1], bytes[at + 2], bytes[at + 3]))
 }
 
-fn least_first(four: [u8; 4]) -> u32
-    ensures { λ r. ⌜ (r % 256 ≡ getD four 0 0) × ((r / 256 % 256 ≡ getD four 1 0) × ((r / 65536 % 256 ≡ getD four 2 0) × (r / 16777216 ≡ getD four 3 0))) ⌝ }
+fn least_first(first: u8, second: u8, third: u8, fourth: u8) -> u32
+    ensures { λ r. ⌜ (r % 256 ≡ first) × ((r / 256 % 256 ≡ second) × ((r / 65536 % 256 ≡ third) × (r / 16777216 ≡ fourth))) ⌝ }
 {
-    wide(four[0]) + wide(four[1]) * 256 + wide(four[2]) * 65536 + wide(four[3]) * 16777216
+    wide(first) + wide(second) * 256 + wide(third) * 65536 + wide(fourth) * 16777216
 }
 
 fn turned(word: u32) -> u32
