@@ -43,7 +43,7 @@ fn element_of(word: u32) -> Element
 }
 
 // Four bytes, most significant first. They are put together the other way round and then turned:
-// the compiler sees one load in each of the two, and none in the sum that they come to.
+// the compiler makes one load of the one and one instruction of the other, and neither of the sum that they come to.
 pub(crate) fn word_at(bytes: &[u8], at: usize) -> u32
     requires { ⌜ at + 4 ≤ length (now bytes) ⌝ }
     ensures { λ r. ⌜ r ≡ wordAt (now (bytes .entry)) at ⌝ }
