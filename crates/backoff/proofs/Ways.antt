@@ -4,7 +4,6 @@ use mathlib.Core.Bool.{Bool, true, false, cond}
 use Prim.Native.Nat.{ℕ, ◌+◌, ◌*◌, ◌%◌, ◌^◌, ◌≤◌, ◌<◌}
 use mathlib.Core.List.{[], ◌∷◌}
 use mathlib.Core.Logic.{inl, inr}
-use types.Run.{OneOf}
 use native.Mathlib.Nat.{mod-eq_of_lt, one-mul}
 use lib.Pow.{pow_mono, pow_pos}
 use native.Mathlib.Omega.{arith}
@@ -15,7 +14,7 @@ use Rattle.rules.specs.declared.fields.Fields.{Fields}
 use Rattle.rules.proofs.Ways.{said, said_not}
 use Rattle.station.specs.declared.record.Phase.{Phase}
 use Rattle.station.specs.declared.record.Phase.TheVariants.{Idle, Wanting, Deferring, Waiting}
-use Rattle.station.proofs.Ways.{tag, not_waiting}
+use Rattle.station.proofs.Ways.{NotWaiting, NotWanting, not_waiting}
 use Rattle.backoff.specs.Backoffs.{first_exponent, next_exponent, drawn}
 use Rattle.backoff.specs.Steps.{lost, acknowledged, deferred}
 
@@ -43,7 +42,7 @@ module _ (f : Fields) (draw exponent retries size : ℕ) where
   lost_again next left h n l = rw (le-ltb 16 (retries + 1) (omega arith), l, n) refl
 
 module _ (w : ℕ) (b : Bool) (f : Fields) (draw : ℕ) (p : Phase) where
-  pub acknowledged_other : OneOf (0 ∷ 1 ∷ 2 ∷ []) (tag p) → p ≡ acknowledged w b f draw p
+  pub acknowledged_other : NotWaiting p → p ≡ acknowledged w b f draw p
   unfolding acknowledged
   acknowledged_other h = not_waiting (λ q. q ≡ acknowledged w b f draw q) refl (λ size. refl) (λ exponent left retries size. refl) p h
 
@@ -69,13 +68,13 @@ module _ (f : Fields) (draw : ℕ) (p : Phase) where
   unfolding deferred
   deferred_wanting size left e l = rw (e, l) refl
 
-  pub deferred_other : OneOf (0 ∷ 2 ∷ 3 ∷ []) (tag p) → p ≡ deferred f draw p
+  pub deferred_other : NotWanting p → p ≡ deferred f draw p
   unfolding deferred
   deferred_other h = go p h
     where
-      go : (q : Phase) → OneOf (0 ∷ 2 ∷ 3 ∷ []) (tag q) → q ≡ deferred f draw q
+      go : (q : Phase) → NotWanting q → q ≡ deferred f draw q
       go Idle h = refl
-      go (Wanting size) h = absurd (elim h [ inl e ↦ omega arith | inr h ↦ elim h [ inl e ↦ omega arith | inr e ↦ omega arith ] ])
+      go (Wanting size) h = absurd (h size refl)
       go (Deferring exponent left retries size) h = refl
       go (Waiting exponent retries time size) h = refl
 

@@ -1,4 +1,6 @@
 // A station that waits for an answer, or begins to defer: how far it backs off.
+#![tactic(auto)]
+
 pub mod backoff;
 pub mod steps;
 

@@ -6,7 +6,7 @@ use slots::MiniSlot;
 use station::{Phase, Remembered, Station};
 
 // The state's number, and every field that some state has.
-#[derive(Drop)]
+#[derive(Clone, Copy)]
 pub(crate) struct Parts {
     pub state: u32,
     pub size: u32,

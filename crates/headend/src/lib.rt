@@ -1,4 +1,6 @@
 // A small headend: set-up, its record, and the requests that it holds.
+#![tactic(auto)]
+
 pub mod record;
 mod request;
 pub mod setup;

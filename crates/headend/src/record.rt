@@ -7,7 +7,7 @@ ghost use Rattle.headend.specs.Records.{with_places};
 use rules::{Backoff, Refusal};
 use slots::MiniSlot;
 
-#[derive(Drop)]
+#[derive(Clone, Copy)]
 pub struct Headend {
     pub next: MiniSlot,
     pub ack: MiniSlot,
@@ -24,19 +24,19 @@ pub struct Headend {
 
 // What set-up gives. The refusal stands beside the record, as an enum holds no array; where it is
 // not 0 the record is all zero.
-#[derive(Drop)]
+#[derive(Clone, Copy)]
 pub struct SetUp {
     pub refusal: Refusal,
     pub headend: Headend,
 }
 
-#[derive(Drop)]
+#[derive(Clone, Copy)]
 pub enum Taken {
     Taken,
     Refused(Refusal),
 }
 
-#[derive(Drop)]
+#[derive(Clone, Copy)]
 pub struct Taking {
     pub headend: Headend,
     pub answer: Taken,

@@ -1,5 +1,7 @@
 // A worked run of the headend: each line says what is asked and what is answered, and the bytes of
 // a MAP follow on a line of their own.
+#![tactic(auto)]
+
 use headend::{Headend, Taken};
 use issuing::Issued;
 use rules::{Backoff, Refusal};

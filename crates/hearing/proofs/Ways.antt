@@ -3,7 +3,6 @@ use mathlib.Core.Path.{◌≡◌, refl, sym, ◌∙◌}
 use mathlib.Core.Bool.{Bool, true, false, not}
 use Prim.Native.Nat.{ℕ}
 use mathlib.Core.List.{List, [], ◌∷◌}
-use types.Run.{OneOf}
 use native.Mathlib.Nat.{zero-add}
 use lib.ListN.{length}
 use native.Mathlib.Omega.{arith}
@@ -27,7 +26,7 @@ use Rattle.station.specs.declared.record.Remembered.{Remembered}
 use Rattle.station.specs.declared.record.Remembered.TheVariants.{Nothing, End}
 use Rattle.station.specs.declared.record.Station.{Station}
 use Rattle.station.specs.Records.{record_fault}
-use Rattle.station.proofs.Ways.{tag, not_waiting, not_deferring}
+use Rattle.station.proofs.Ways.{NotWaiting, NotDeferring, not_waiting, not_deferring}
 use Rattle.backoff.specs.Steps.{acknowledged, deferred}
 use Rattle.hearing.specs.declared.answer.Sent.{Sent}
 use Rattle.hearing.specs.declared.answer.Sent.TheVariants as sent
@@ -42,7 +41,7 @@ use Rattle.hearing.specs.Scan.{first_of, found_in, waiting_with, taken_in}
 
 -- a pending is asked for in Waiting alone
 module _ (b : Bool) (p : Phase) where
-  pub waiting_other : OneOf (0 ∷ 1 ∷ 2 ∷ []) (tag p) → false ≡ waiting_with b p
+  pub waiting_other : NotWaiting p → false ≡ waiting_with b p
   unfolding waiting_with
   waiting_other h = not_waiting (λ q. false ≡ waiting_with b q) refl (λ size. refl) (λ exponent left retries size. refl) p h
 
@@ -66,7 +65,7 @@ acknowledged_asked w b f draw (Deferring exponent left retries size) = refl
 acknowledged_asked w b f draw (Waiting exponent retries time size) = refl
 
 module _ (b : Bool) (p : Phase) where
-  pub granted_other : OneOf (0 ∷ 1 ∷ 2 ∷ []) (tag p) → Idle ≡ granted b p
+  pub granted_other : NotWaiting p → Idle ≡ granted b p
   unfolding granted
   granted_other h = not_waiting (λ q. Idle ≡ granted b q) refl (λ size. refl) (λ exponent left retries size. refl) p h
 
@@ -81,7 +80,7 @@ module _ (b : Bool) (p : Phase) where
 
 -- step 4, by the first of the own Requests
 module _ (os cs : List ℕ) (p : Phase) (first : Sent) where
-  pub sending_other : OneOf (0 ∷ 1 ∷ 3 ∷ []) (tag p) → p ≡ sending os cs p
+  pub sending_other : NotDeferring p → p ≡ sending os cs p
   unfolding sending
   sending_other h = not_deferring (λ q. q ≡ sending os cs q) refl (λ size. refl) (λ exponent retries time size. refl) p h
 
@@ -103,7 +102,7 @@ module _ (os cs : List ℕ) (p : Phase) (first : Sent) where
         go (t ∷ ts) h = let z : ◌≡◌ {A = ℕ} 0 1 = cc in absurd (omega arith)
 
 module _ (p : Phase) where
-  pub since_other : OneOf (0 ∷ 1 ∷ 2 ∷ []) (tag p) → sent.Nothing ≡ waiting_since p
+  pub since_other : NotWaiting p → sent.Nothing ≡ waiting_since p
   unfolding waiting_since
   since_other h = not_waiting (λ q. sent.Nothing ≡ waiting_since q) refl (λ size. refl) (λ exponent left retries size. refl) p h
 
@@ -112,7 +111,7 @@ module _ (p : Phase) where
   since_waiting exponent retries time size e = rw e refl
 
   module _ (after : Phase) where
-    pub sent_other : OneOf (0 ∷ 1 ∷ 3 ∷ []) (tag p) → sent.Nothing ≡ sent_by p after
+    pub sent_other : NotDeferring p → sent.Nothing ≡ sent_by p after
     unfolding sent_by
     sent_other h = not_deferring (λ q. sent.Nothing ≡ sent_by q after) refl (λ size. refl) (λ exponent retries time size. refl) p h
 

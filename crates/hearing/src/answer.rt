@@ -4,19 +4,19 @@ use slots::MiniSlot;
 use station::Station;
 
 // A request sent, by its first mini-slot, or none.
-#[derive(Drop)]
+#[derive(Clone, Copy)]
 pub enum Sent {
     Nothing,
     At(MiniSlot),
 }
 
-#[derive(Drop)]
+#[derive(Clone, Copy)]
 pub enum Answer {
     Heard { bursts: u32, request: Sent },
     Refused(Refusal),
 }
 
-#[derive(Drop)]
+#[derive(Clone, Copy)]
 pub struct Hearing {
     pub station: Station,
     pub answer: Answer,

@@ -123,7 +123,7 @@ fn hear_map(st: Station, bytes: &[u8], reading: Reading, present: MiniSlot, draw
 }
 
 // What the four steps come to.
-#[derive(Drop)]
+#[derive(Clone, Copy)]
 pub(crate) struct Taken {
     pub bursts: u32,
     pub phase: Phase,

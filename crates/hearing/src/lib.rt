@@ -1,4 +1,6 @@
 // A station that hears a MAP: when it may speak.
+#![tactic(auto)]
+
 pub mod answer;
 pub mod hearing;
 pub mod opportunity;

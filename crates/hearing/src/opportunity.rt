@@ -17,7 +17,7 @@ use slots::MiniSlot;
 use station::Phase;
 
 // The data bursts of a station, and the first usable Request to its own SID.
-#[derive(Drop)]
+#[derive(Clone, Copy)]
 pub(crate) struct Found {
     pub bursts: u32,
     pub own: Sent,

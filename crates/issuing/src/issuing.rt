@@ -13,13 +13,13 @@ use rules::Refusal;
 use slots::MiniSlot;
 
 // The bytes of the MAP, or why there is none.
-#[derive(Drop)]
+#[derive(Clone, Copy)]
 pub enum Issued {
     Size(u32),
     Refused(Refusal),
 }
 
-#[derive(Drop)]
+#[derive(Clone, Copy)]
 pub struct Issuing {
     pub headend: Headend,
     pub answer: Issued,

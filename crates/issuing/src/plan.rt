@@ -12,7 +12,7 @@ use slots::MiniSlot;
 use writer::lay_out;
 
 // How many of the held requests are granted, and their mini-slots together.
-#[derive(Drop)]
+#[derive(Clone, Copy)]
 pub(crate) struct Grants {
     pub count: usize,
     pub total: u32,

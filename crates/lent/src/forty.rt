@@ -6,14 +6,14 @@ use crate::table::hear_table;
 use slots::MiniSlot;
 use station::Station;
 
-#[derive(Drop)]
+#[derive(Clone, Copy)]
 pub struct Forty {
     pub code: u32,
     pub stations: [Station; 40],
 }
 
 // The part that is lent. Where it would not lie within the forty, all of them are, which is too large a table.
-#[derive(Drop)]
+#[derive(Clone, Copy)]
 pub(crate) struct Window {
     pub from: usize,
     pub to: usize,

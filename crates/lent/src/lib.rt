@@ -1,4 +1,6 @@
 // All that is lent of stations: one record, a table of them that hears one MAP, and a part of forty records by value.
+#![tactic(auto)]
+
 pub mod forty;
 pub mod in_place;
 pub mod table;

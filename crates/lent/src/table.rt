@@ -9,14 +9,14 @@ use slots::MiniSlot;
 use station::Station;
 
 // How many records are worked, and the table's own refusal number or 0.
-#[derive(Drop)]
+#[derive(Clone, Copy)]
 pub(crate) struct Fit {
     pub n: usize,
     pub code: u32,
 }
 
 // A record after its hearing, and what its place takes.
-#[derive(Drop)]
+#[derive(Clone, Copy)]
 pub(crate) struct Placed {
     pub station: Station,
     pub number: u32,

@@ -1,5 +1,7 @@
 // Standard input, whole, and its report on standard output. One byte more than the longest input is
 // enough to know that an input is too long.
+#![tactic(auto)]
+
 use report::Reported;
 use stream::Input;
 

@@ -12,7 +12,7 @@ use rules::{Element, Refusal, granting};
 use slots::MiniSlot;
 
 // By first mini-slot and length; no such grant; or why the message is refused.
-#[derive(Drop)]
+#[derive(Clone, Copy)]
 pub enum Granted {
     At { first: MiniSlot, length: u32 },
     Nowhere,
@@ -20,7 +20,7 @@ pub enum Granted {
 }
 
 // A grant within a MAP.
-#[derive(Drop)]
+#[derive(Clone, Copy)]
 pub enum Found {
     At { offset: u32, length: u32 },
     Nothing,

@@ -1,4 +1,6 @@
 // The MAP message body of ITU-T J.112 Annex C, from the channel ID byte on: how it is read.
+#![tactic(auto)]
+
 pub mod after;
 pub mod element;
 pub mod fields;

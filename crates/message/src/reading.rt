@@ -12,7 +12,7 @@ use rules::{
     Fields, Progress, Refusal, Walked, advance, ended, fault, nothing_yet, standing_fault,
 };
 
-#[derive(Drop)]
+#[derive(Clone, Copy)]
 pub struct Reading {
     pub fields: Fields,
     pub n: u32,
@@ -20,7 +20,7 @@ pub struct Reading {
     pub length: u32,
 }
 
-#[derive(Drop)]
+#[derive(Clone, Copy)]
 pub enum Verdict {
     Accepted(Reading),
     Refused(Refusal),
@@ -106,7 +106,7 @@ fn walk_rest(bytes: &[u8], n: u32, p: Progress, from: u32) -> Walked
 
 // What the checks of a message come to, and the bytes alone don't tell. `read` and `grant` both stand
 // on it: the checks are compiled once, and what is left of `read` is short enough to be inlined.
-#[derive(Drop)]
+#[derive(Clone, Copy)]
 pub(crate) enum Checked {
     Whole { null: u32, n: u32, length: u32 },
     Fault { number: u32, element: u32 },

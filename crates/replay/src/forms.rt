@@ -5,7 +5,7 @@ use crate::numbers::{all_within, number_at};
 use crate::words;
 
 // What a call is on.
-#[derive(Drop)]
+#[derive(Clone, Copy)]
 pub enum Kept {
     Station,
     Stations,

@@ -6,7 +6,7 @@ use crate::words::{UNKNOWN, with_letter};
 
 // The digits of the hex token begin at a place, which is the line's end where there is none. A line
 // of another form is one with an unknown word.
-#[derive(Drop)]
+#[derive(Clone, Copy)]
 pub struct Line {
     pub word: u64,
     pub hex: bool,
@@ -16,14 +16,14 @@ pub struct Line {
 }
 
 // The bytes of a hex token, and how many there are: NO_BYTES where the token is none.
-#[derive(Drop)]
+#[derive(Clone, Copy)]
 pub struct Bytes {
     pub size: usize,
     pub bytes: [u8; 1000],
 }
 
 // A token of a line: where it ends, and what it is as a word and as a number.
-#[derive(Drop)]
+#[derive(Clone, Copy)]
 struct Token {
     pub end: usize,
     pub word: u64,

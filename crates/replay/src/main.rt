@@ -1,5 +1,7 @@
 // A script of calls on standard input, a line for each answer on standard output: the format of
 // docs/REPLAY.md. The crates' functions do the work; this program adds none.
+#![tactic(auto)]
+
 ghost use Rattle.std.specs.Prelude.{◌≡◌, length};
 
 mod forms;
@@ -23,7 +25,7 @@ use stream::Input;
 const MOST_INPUT: usize = 1048576;
 
 // The places after a line, and whether its answer was written.
-#[derive(Drop)]
+#[derive(Clone, Copy)]
 struct Reply {
     pub places: Places,
     pub told: bool,

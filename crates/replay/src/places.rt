@@ -6,7 +6,7 @@ use crate::{headends, messages, stations, tables};
 use headend::Headend;
 use station::Station;
 
-#[derive(Drop)]
+#[derive(Clone, Copy)]
 pub struct Places {
     pub stations: [Station; 40],
     pub headends: [Headend; 4],

@@ -7,7 +7,7 @@ use rules::Refusal;
 use slots::MiniSlot;
 
 // What the report says of an accepted MAP.
-#[derive(Drop)]
+#[derive(Clone, Copy)]
 pub struct Row {
     pub start: MiniSlot,
     pub length: u32,
@@ -15,7 +15,7 @@ pub struct Row {
 }
 
 // What stands next in the input: a MAP, or the number of its refusal.
-#[derive(Drop)]
+#[derive(Clone, Copy)]
 pub enum Body {
     Map(Row),
     Bad(u32),

@@ -12,7 +12,7 @@ use slots::{Added, Span};
 
 // How many bytes the report has, or that the lent bytes are too few for a report of any input as
 // long as this one.
-#[derive(Drop)]
+#[derive(Clone, Copy)]
 pub enum Reported {
     Length(usize),
     Refused(Refusal),

@@ -6,13 +6,13 @@ ghost use Rattle.rules.specs.Backoffs.{bad_backoff, bad_backoffs};
 use slots::MiniSlot;
 
 // The exponents of a backoff window, at first and at most.
-#[derive(Drop)]
+#[derive(Clone, Copy)]
 pub struct Backoff {
     pub start: u8,
     pub end: u8,
 }
 
-#[derive(Drop)]
+#[derive(Clone, Copy)]
 pub struct Fields {
     pub channel: u8,
     pub count: u8,

@@ -1,4 +1,6 @@
 // What a MAP may say: its fields, its elements, the rules that they keep, and the refusals.
+#![tactic(auto)]
+
 pub mod element;
 pub mod fields;
 pub mod refusal;

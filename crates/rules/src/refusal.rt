@@ -1,6 +1,6 @@
 // Why a call is refused: the number of document 01's table, and the element at fault. From
 // Room on the element is 0.
-#[derive(Drop)]
+#[derive(Clone, Copy)]
 pub struct Refusal {
     pub number: u32,
     pub element: u32,

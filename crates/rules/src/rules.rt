@@ -8,7 +8,7 @@ use crate::refusal::Refusal;
 
 // What the elements passed so far tell of the next one. Once the Null has closed the intervals,
 // `offset` stays the map length.
-#[derive(Drop)]
+#[derive(Clone, Copy)]
 pub struct Progress {
     pub first: bool,
     pub closed: bool,
@@ -18,7 +18,7 @@ pub struct Progress {
 }
 
 // What all elements together are.
-#[derive(Drop)]
+#[derive(Clone, Copy)]
 pub enum Walked {
     Whole { null: u32, length: u32 },
     Fault(Refusal),

@@ -1,4 +1,6 @@
 // The upstream channel's two counters, and the span of a set of MAPs.
+#![tactic(auto)]
+
 pub mod span;
 pub mod time;
 

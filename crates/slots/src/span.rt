@@ -5,7 +5,7 @@ ghost use Rattle.slots.specs.Span.{within, both, further, widened, added, added_
 use crate::time::MiniSlot;
 
 // Nothing: no MAP yet. Lost: there are MAPs, and they have no span. Over: E and L.
-#[derive(Drop)]
+#[derive(Clone, Copy)]
 pub enum Span {
     Nothing,
     Lost,
@@ -16,7 +16,7 @@ pub enum Span {
 }
 
 // The span with one MAP more; or, where it is too long to be a MAP, the span as it was.
-#[derive(Drop)]
+#[derive(Clone, Copy)]
 pub struct Added {
     pub taken: bool,
     pub span: Span,

@@ -5,15 +5,15 @@ ghost use Rattle.slots.specs.Time.{ahead, earlier, moved_on};
 ghost use Rattle.slots.specs.Begins.{begins_at, number_of, size_fault};
 
 // The count of mini-slots.
-#[derive(Drop)]
+#[derive(Clone, Copy)]
 pub struct MiniSlot(pub u32);
 
 // The count of the headend's clock: 64 of these are one tick of 64/9.216 microseconds.
-#[derive(Drop)]
+#[derive(Clone, Copy)]
 pub struct Timestamp(pub u32);
 
 // Where a mini-slot begins, or that no such mini-slot size exists.
-#[derive(Drop)]
+#[derive(Clone, Copy)]
 pub enum Begins {
     At(Timestamp),
     Size,

@@ -4,9 +4,6 @@ use mathlib.Core.Bool.{Bool, true, false, not, ◌||◌}
 use Prim.Native.Nat.{ℕ}
 use mathlib.Core.List.{[], ◌∷◌}
 use mathlib.Core.Logic.{inl, inr}
-use types.Run.{OneOf}
-use denote.Enum.Declared
-use Rattle.station.specs.contracts.record.Phase as phase
 use native.Mathlib.Omega.{arith}
 use lib.Dec.{ltb}
 use borrow.Author.Tests.{ne_eqb, not-true}
@@ -21,21 +18,27 @@ use Rattle.station.specs.declared.record.SetUp.TheVariants as set_up
 use Rattle.station.specs.Records.{bad_size, bad_r, bad_phase, record_fault}
 use Rattle.station.specs.Offering.{fresh, set_up_of, idle, offer_fault, wanting, offer_of}
 
--- an arm `_` is told that the tag is one of those that no other arm names
-abbrev pub tag : Phase → ℕ
-tag p = Declared.tag_of phase.the_type p
+-- an arm `_` is told that the phase is none that another arm names
+abbrev pub NotWanting : Phase → Type 0
+NotWanting p = (size : ℕ) → p ≡ Wanting size → ⊥
+
+abbrev pub NotDeferring : Phase → Type 0
+NotDeferring p = (exponent left retries size : ℕ) → p ≡ Deferring exponent left retries size → ⊥
+
+abbrev pub NotWaiting : Phase → Type 0
+NotWaiting p = (exponent retries : ℕ) (time : MiniSlot) (size : ℕ) → p ≡ Waiting exponent retries time size → ⊥
 
 module _ (P : Phase → Type 0) where
-  pub not_waiting : P Idle → ((size : ℕ) → P (Wanting size)) → ((exponent left retries size : ℕ) → P (Deferring exponent left retries size)) → (p : Phase) → OneOf (0 ∷ 1 ∷ 2 ∷ []) (tag p) → P p
+  pub not_waiting : P Idle → ((size : ℕ) → P (Wanting size)) → ((exponent left retries size : ℕ) → P (Deferring exponent left retries size)) → (p : Phase) → NotWaiting p → P p
   not_waiting a b c Idle h = a
   not_waiting a b c (Wanting size) h = b size
   not_waiting a b c (Deferring exponent left retries size) h = c exponent left retries size
-  not_waiting a b c (Waiting exponent retries time size) h = absurd (elim h [ inl e ↦ omega arith | inr h ↦ elim h [ inl e ↦ omega arith | inr e ↦ omega arith ] ])
+  not_waiting a b c (Waiting exponent retries time size) h = absurd (h exponent retries time size refl)
 
-  pub not_deferring : P Idle → ((size : ℕ) → P (Wanting size)) → ((exponent retries : ℕ) (time : MiniSlot) (size : ℕ) → P (Waiting exponent retries time size)) → (p : Phase) → OneOf (0 ∷ 1 ∷ 3 ∷ []) (tag p) → P p
+  pub not_deferring : P Idle → ((size : ℕ) → P (Wanting size)) → ((exponent retries : ℕ) (time : MiniSlot) (size : ℕ) → P (Waiting exponent retries time size)) → (p : Phase) → NotDeferring p → P p
   not_deferring a b c Idle h = a
   not_deferring a b c (Wanting size) h = b size
-  not_deferring a b c (Deferring exponent left retries size) h = absurd (elim h [ inl e ↦ omega arith | inr h ↦ elim h [ inl e ↦ omega arith | inr e ↦ omega arith ] ])
+  not_deferring a b c (Deferring exponent left retries size) h = absurd (h exponent left retries size refl)
   not_deferring a b c (Waiting exponent retries time size) h = c exponent retries time size
 
 module _ (p : Phase) where
@@ -59,15 +62,15 @@ module _ (p : Phase) where
   unfolding idle
   busy_idle e = rw e refl
 
-  pub busy_other : OneOf (1 ∷ 2 ∷ 3 ∷ []) (tag p) → true ≡ not (idle p)
+  pub busy_other : (p ≡ Idle → ⊥) → true ≡ not (idle p)
   unfolding idle
   busy_other h = go p h
     where
-      go : (q : Phase) → OneOf (1 ∷ 2 ∷ 3 ∷ []) (tag q) → true ≡ not (idle q)
-      go Idle h = absurd (elim h [ inl e ↦ omega arith | inr h ↦ elim h [ inl e ↦ omega arith | inr e ↦ omega arith ] ])
-      go (Wanting size) h = refl
-      go (Deferring exponent left retries size) h = refl
-      go (Waiting exponent retries time size) h = refl
+      go : (q : Phase) → (q ≡ Idle → ⊥) → true ≡ not (idle q)
+      go Idle n = absurd (n refl)
+      go (Wanting size) n = refl
+      go (Deferring exponent left retries size) n = refl
+      go (Waiting exponent retries time size) n = refl
 
 module _ (st : Station) where
   pub record_6 : not (unicast st.sid) ≡ true → 6 ≡ record_fault st

@@ -7,7 +7,7 @@ use rules::{Refusal, within};
 use slots::MiniSlot;
 
 // What becomes of the packet that was offered. `size` is the packet's, in mini-slots.
-#[derive(Drop)]
+#[derive(Clone, Copy)]
 pub enum Phase {
     Idle,
     Wanting {
@@ -28,13 +28,13 @@ pub enum Phase {
 }
 
 // The end of the last MAP that was accepted, if there was one.
-#[derive(Drop)]
+#[derive(Clone, Copy)]
 pub enum Remembered {
     Nothing,
     End(MiniSlot),
 }
 
-#[derive(Drop)]
+#[derive(Clone, Copy)]
 pub struct Station {
     pub sid: u32,
     pub channel: u8,
@@ -44,19 +44,19 @@ pub struct Station {
     pub phase: Phase,
 }
 
-#[derive(Drop)]
+#[derive(Clone, Copy)]
 pub enum Offered {
     Taken,
     Refused(Refusal),
 }
 
-#[derive(Drop)]
+#[derive(Clone, Copy)]
 pub struct Offering {
     pub station: Station,
     pub answer: Offered,
 }
 
-#[derive(Drop)]
+#[derive(Clone, Copy)]
 pub enum SetUp {
     Ready(Station),
     Refused(Refusal),

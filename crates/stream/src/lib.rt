@@ -1,5 +1,7 @@
 // Standard input and output for programs that never hide a failure: one that failed has written one
 // line on standard error, and one that did not has written nothing there.
+#![tactic(auto)]
+
 pub mod reading;
 pub mod telling;
 pub mod text;

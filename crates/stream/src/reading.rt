@@ -2,7 +2,7 @@
 ghost use Rattle.stream.specs.Reading.{Inside};
 
 // How many bytes came into the front of the lent ones; none where the input has ended.
-#[derive(Drop)]
+#[derive(Clone, Copy)]
 pub enum Input {
     Bytes(usize),
     Failed,

@@ -97,10 +97,10 @@ module _ (f : Fields) (es : List Element) (o : List ℕ) where
   unfolding message_of
   length_message = length-append (header_of f (length es)) (elements_of es) ∙ omega (arith, length_header (length es), length_elements es)
 
-  pub laid_out_lem : (n : ℕ) (header one two : List ℕ) → n ≡ length es → 16 + 4 * n ≤ length o → header ≡ header_of f n → one ≡ take (length header) header ++ drop (length header) o → two ≡ take 16 one ++ (elements_of es ++ drop (16 + 4 * n) one) → two ≡ laid_out f es o
+  pub laid_out_lem : (n : ℕ) (header one two : List ℕ) → n ≡ length es → 16 + 4 * n ≤ length o → header ≡ header_of f n → one ≡ header ++ drop 16 o → two ≡ take 16 one ++ (elements_of es ++ drop (16 + 4 * n) one) → two ≡ laid_out f es o
   unfolding laid_out message_of
   laid_out_lem n header one two is room h p q =
-      let start : one ≡ header_of f n ++ drop 16 o = p ∙ rw (h, take-length (header_of f n), length_header n) refl in
+      let start : one ≡ header_of f n ++ drop 16 o = p ∙ rw h refl in
       let first : take 16 one ≡ header_of f n = rw start (take_at (header_of f n) (drop 16 o) 16 (length_header n)) in
       let rest : drop (16 + 4 * n) one ≡ drop (16 + 4 * n) o = sym (drop-drop (4 * n) 16 one) ∙ ap (λ (l : List ℕ). drop (4 * n) l) (rw start (drop_at (header_of f n) (drop 16 o) 16 (length_header n))) ∙ drop-drop (4 * n) 16 o in
       let whole : length (header_of f (length es) ++ elements_of es) ≡ 16 + 4 * n = length_message' ∙ omega arith in

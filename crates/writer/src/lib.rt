@@ -1,4 +1,6 @@
 // The MAP message body of ITU-T J.112 Annex C, written.
+#![tactic(auto)]
+
 pub mod writing;
 
 pub use writing::{Written, lay_out, write};

@@ -8,7 +8,7 @@ ghost use Rattle.writer.specs.Writing.{bytes_of, word_of, header_of, elements_of
 use rules::{Element, Fields, Refusal, Walked, advance, ended, fault, nothing_yet};
 
 // The bytes of the message, or why it is refused.
-#[derive(Drop)]
+#[derive(Clone, Copy)]
 pub enum Written {
     Size(u32),
     Refused(Refusal),
@@ -126,7 +126,7 @@ pub fn lay_out(fields: Fields, sids: &[u32], uses: &[u32], offsets: &[u32], out:
         return;
     }
     let header = header_of(fields, n);
-    bytes::copy(&header, out);
+    out[..16].copy_from_slice(&header);
     put_elements(sids, uses, offsets, out);
 }
 

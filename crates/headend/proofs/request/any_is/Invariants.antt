@@ -1,0 +1,16 @@
+use borrow.Author.Rules.{rules}
+use Prim.Native.Nat.{◌-◌, ◌≤◌}
+use mathlib.Core.Path.{◌≡◌}
+use lib.ListN.{get_or}
+use lib.Dec.{eqb}
+use Rattle.message.specs.Lists.{listed}
+use Rattle.headend.specs.Records.{any}
+use Rattle.headend.proofs.Scans.{any_begins, any_end, any_hit, any_next}
+use borrow.Author.Tests.{eq-eqb, ne_eqb}
+use Rattle.headend.proofs.request.any_is.Given as goal
+
+abbrev pub invariant-loop-i : goal.invariant-loop-i
+invariant-loop-i l = (l.i ≤ l.n) × (any (λ y. eqb y l.x) (listed (λ j. get_or l.numbers j 0) l.i (l.n - l.i)) ≡ any (λ y. eqb y l.x) (listed (λ j. get_or l.numbers j 0) 0 l.n))
+
+abbrev pub decreases-loop-i : goal.decreases-loop-i
+decreases-loop-i l = l.n - l.i

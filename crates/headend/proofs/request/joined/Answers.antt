@@ -1,0 +1,6 @@
+use Rattle.headend.proofs.Checks.{joins}
+use borrow.Author.Rules.{rules}
+use Rattle.headend.proofs.request.joined.Goals as goal
+
+pub returns : goal.returns
+returns c = search joins

@@ -1,0 +1,7 @@
+use mathlib.Core.Bool.{not}
+use mathlib.Core.Path.{ap}
+use borrow.Author.Rules.{rules}
+use Rattle.headend.proofs.setup.outside.Goals as goal
+
+pub returns : goal.returns
+returns c = ap not c.within.ensures

@@ -1,0 +1,21 @@
+use Rattle.headend.proofs.Checks.{ways}
+use borrow.Author.Rules.{rules}
+use Rattle.headend.proofs.setup.record_fault.Goals as goal
+
+pub returns-then-bad : goal.returns-then-bad
+returns-then-bad c = search ways
+
+pub returns-then-bad-2 : goal.returns-then-bad-2
+returns-then-bad-2 c = search ways
+
+pub returns-then-any_outside : goal.returns-then-any_outside
+returns-then-any_outside c = search ways
+
+pub returns-then-h-gt-MOST_HELD : goal.returns-then-h-gt-MOST_HELD
+returns-then-h-gt-MOST_HELD c = search ways
+
+pub returns-then-any_outside-2 : goal.returns-then-any_outside-2
+returns-then-any_outside-2 c = search ways
+
+pub returns : goal.returns
+returns c = search ways

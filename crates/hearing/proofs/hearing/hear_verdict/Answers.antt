@@ -1,0 +1,12 @@
+use Rattle.hearing.proofs.Ways.{verdict_read, verdict_refused, verdict_accepted}
+use borrow.Author.Rules.{rules}
+use Rattle.hearing.proofs.hearing.hear_verdict.Goals as goal
+
+pub hear_map-requires : goal.hear_map-requires
+hear_map-requires c = search verdict_read
+
+pub returns-in-Refused : goal.returns-in-Refused
+returns-in-Refused c = search (verdict_refused, verdict_accepted)
+
+pub returns-in-Accepted : goal.returns-in-Accepted
+returns-in-Accepted c = search verdict_accepted

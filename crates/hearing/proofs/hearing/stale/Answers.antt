@@ -1,0 +1,9 @@
+use Rattle.hearing.proofs.Ways.{hear_ways}
+use borrow.Author.Rules.{rules}
+use Rattle.hearing.proofs.hearing.stale.Goals as goal
+
+pub returns-in-Nothing : goal.returns-in-Nothing
+returns-in-Nothing c = search hear_ways
+
+pub returns-in-End : goal.returns-in-End
+returns-in-End c = search hear_ways

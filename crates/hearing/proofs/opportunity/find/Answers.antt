@@ -1,0 +1,36 @@
+use Rattle.hearing.proofs.Scanning.{null_early, rises_on, find_begins, find_end, find_next, find_other, find_few, find_same}
+use Rattle.message.specs.Lists.{listed}
+use Rattle.hearing.specs.Scan.{found_in}
+use Rattle.hearing.specs.declared.answer.Sent.TheVariants.{Nothing}
+use Rattle.message.specs.Reading.{map_of}
+use Rattle.message.specs.Map.{intervals}
+use Rattle.message.specs.Element.{element_at}
+use Prim.Native.Nat.{◌-◌, ◌≤◌, ◌<◌}
+use mathlib.Core.Path.{◌≡◌}
+use mathlib.Core.Logic.{⊎_elim}
+use borrow.Author.Rules.{rules}
+use Rattle.hearing.proofs.opportunity.find.Goals as goal
+
+pub loop-i-init : goal.loop-i-init
+loop-i-init c = (search null_early, search rules, search rules, search find_begins)
+
+pub overflow_sub-next : goal.overflow_sub-next
+overflow_sub-next c = search rises_on
+
+pub loop-i-preserved : goal.loop-i-preserved
+loop-i-preserved c =
+    let here = c in
+    let ok = here.before.before.before.before.requires in
+    let is = c.element_at-e.ensures in
+    let left = here.loop.invariant.3 in (
+      search rules,
+      search rules,
+      ⊎_elim (λ w. search find_few) (λ w. search find_same) c.if-e-sid.branch,
+      ⊎_elim
+          (λ w. find_next _ _ ok _ _ _ _ _ _ _ _ (search rules) is left _ _ w.0.taken w.5 w.1.ensures w.4.ensures)
+          (λ w. find_other _ _ ok _ _ _ _ _ _ _ _ (search rules) is left w.1 w.0.left)
+          c.if-e-sid.branch,
+    )
+
+pub returns : goal.returns
+returns c = search find_end

@@ -1,0 +1,5 @@
+use borrow.Author.Rules.{rules}
+use Rattle.hearing.proofs.opportunity.granted_to.Goals as goal
+
+pub returns : goal.returns
+returns c = rw c.granting.ensures

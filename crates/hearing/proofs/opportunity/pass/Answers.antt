@@ -1,0 +1,35 @@
+use Rattle.hearing.proofs.Scanning.{null_early, rises_on, place_fits, place_after_fits, pass_begins, pass_end, pass_next, pass_none, pass_sends}
+use Rattle.hearing.specs.Steps.{passing}
+use Rattle.hearing.specs.Opportunities.{contention_in, contention}
+use Rattle.message.specs.Reading.{map_of}
+use Rattle.message.specs.Map.{intervals}
+use Rattle.message.specs.Lists.{listed, gather}
+use Rattle.message.specs.Element.{element_at}
+use Rattle.slots.specs.Time.{moved_on}
+use Prim.Native.Nat.{◌-◌, ◌≤◌, ◌<◌}
+use mathlib.Core.List.{map}
+use mathlib.Core.Path.{◌≡◌}
+use mathlib.Core.Logic.{⊎_elim}
+use borrow.Author.Rules.{rules}
+use Rattle.hearing.proofs.opportunity.pass.Goals as goal
+
+pub loop-i-init : goal.loop-i-init
+loop-i-init c = (search null_early, search rules, search pass_begins)
+
+pub overflow_sub-count : goal.overflow_sub-count
+overflow_sub-count c = search rises_on
+
+pub overflow_mul-left : goal.overflow_mul-left
+overflow_mul-left c = record { fits = search place_fits }
+
+pub overflow_add-e : goal.overflow_add-e
+overflow_add-e c = record { fits = search place_after_fits }
+
+pub loop-i-preserved : goal.loop-i-preserved
+loop-i-preserved c = (search rules, search rules, ⊎_elim (λ w. search pass_next) (λ w. search pass_none) c.if-step-ne0.branch)
+
+pub returns-then-reading-i : goal.returns-then-reading-i
+returns-then-reading-i c = search pass_end
+
+pub returns-then-left-count : goal.returns-then-left-count
+returns-then-left-count c = search pass_sends

@@ -1,0 +1,23 @@
+use Rattle.hearing.proofs.Scanning.{null_early, rises_on, place_fits, place_after_fits, pass_begins, pass_end, pass_next, pass_none, pass_sends}
+use Rattle.hearing.specs.Steps.{passing}
+use Rattle.hearing.specs.Opportunities.{contention_in, contention}
+use Rattle.message.specs.Reading.{map_of}
+use Rattle.message.specs.Map.{intervals}
+use Rattle.message.specs.Lists.{listed, gather}
+use Rattle.message.specs.Element.{element_at}
+use Rattle.slots.specs.Time.{moved_on}
+use Prim.Native.Nat.{◌-◌, ◌≤◌, ◌<◌}
+use mathlib.Core.List.{map}
+use mathlib.Core.Path.{◌≡◌}
+use mathlib.Core.Logic.{⊎_elim}
+use borrow.Author.Rules.{rules}
+use Rattle.hearing.proofs.opportunity.pass.Given as goal
+
+abbrev pub invariant-loop-i : goal.invariant-loop-i
+invariant-loop-i l =
+    (l.reading.null < 240) × (l.i ≤ l.reading.null)
+    × (passing (map (moved_on 32 l.start.0) (gather (contention_in l.r) (intervals (listed (element_at l.bytes) l.i (l.reading.n - l.i))))) l.exponent l.left' l.retries l.size
+    ≡ passing (contention l.r (map_of l.bytes)) l.exponent l.left l.retries l.size)
+
+abbrev pub decreases-loop-i : goal.decreases-loop-i
+decreases-loop-i l = l.reading.null - l.i

@@ -1,0 +1,18 @@
+use Rattle.hearing.proofs.Scanning.{few, null_next, null_next_fits, pending_from, pending_begins, pending_end, pending_found, pending_next}
+use Rattle.message.specs.Reading.{map_of}
+use Rattle.message.specs.Map.{pendings_to}
+use Rattle.message.specs.Lists.{is_empty}
+use Rattle.message.specs.Element.{element_at}
+use Prim.Native.Nat.{◌-◌, ◌≤◌}
+use mathlib.Core.Bool.{not}
+use mathlib.Core.Path.{◌≡◌}
+use borrow.Author.Rules.{rules}
+use Rattle.hearing.proofs.opportunity.pending.Given as goal
+
+abbrev pub invariant-loop-i : goal.invariant-loop-i
+invariant-loop-i l =
+    (l.reading.n ≤ 240) × (l.i ≤ l.reading.n)
+    × (pending_from (element_at l.bytes) l.reading.n l.sid l.i ≡ not (is_empty (pendings_to l.sid (map_of l.bytes).elements)))
+
+abbrev pub decreases-loop-i : goal.decreases-loop-i
+decreases-loop-i l = l.reading.n - l.i

@@ -1,0 +1,9 @@
+use Rattle.hearing.proofs.Ways.{step_ways}
+use borrow.Author.Rules.{rules}
+use Rattle.hearing.proofs.opportunity.waiting_with_pending.Goals as goal
+
+pub returns-in-Waiting : goal.returns-in-Waiting
+returns-in-Waiting c = search step_ways
+
+pub returns-in_default : goal.returns-in_default
+returns-in_default c = search step_ways

@@ -1,0 +1,8 @@
+use mathlib.Core.Path.{◌∙◌}
+use Rattle.message.specs.Element.{word_at}
+use borrow.Author.Rules.{rules}
+use Rattle.message.proofs.element.word_at.Goals as goal
+
+pub returns : goal.returns
+unfolding word_at
+returns c = let d = c.least_first.ensures in c.turned.ensures ∙ rw (d.0, d.1.0, d.1.1.0, d.1.1.1)

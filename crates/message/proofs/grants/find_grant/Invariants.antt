@@ -1,0 +1,14 @@
+use borrow.Author.Rules.{rules}
+use Rattle.message.specs.Grants.{kth_grant}
+use Rattle.message.specs.Lists.{listed}
+use Rattle.message.specs.Element.{element_at}
+use Prim.Native.Nat.{◌-◌, ◌≤◌}
+use mathlib.Core.Path.{◌≡◌, refl}
+use Rattle.message.proofs.Granting.{past_end, scan_begins, scan_end, scan_null, scan_next, scans}
+use Rattle.message.proofs.grants.find_grant.Given as goal
+
+abbrev pub invariant-loop-i : goal.invariant-loop-i
+invariant-loop-i l = (l.i ≤ l.n) × ((l.e ≡ element_at l.bytes l.i) × (kth_grant (listed (element_at l.bytes) l.i (l.n - l.i)) l.sid l.left ≡ kth_grant (listed (element_at l.bytes) 0 l.n) l.sid l.k))
+
+abbrev pub decreases-loop-i : goal.decreases-loop-i
+decreases-loop-i l = l.n - l.i

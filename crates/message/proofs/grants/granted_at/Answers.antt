@@ -1,0 +1,6 @@
+use Rattle.message.proofs.Granting.{granted_at_lem}
+use borrow.Author.Rules.{rules}
+use Rattle.message.proofs.grants.granted_at.Goals as goal
+
+pub returns-in-At : goal.returns-in-At
+returns-in-At c = granted_at_lem _ _ _ _ _ c.in-At.is c.moved_on.ensures

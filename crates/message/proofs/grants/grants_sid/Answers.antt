@@ -1,0 +1,7 @@
+use Rattle.message.specs.Scan.{grants_sid}
+use borrow.Author.Rules.{rules}
+use Rattle.message.proofs.grants.grants_sid.Goals as goal
+
+pub returns : goal.returns
+unfolding grants_sid
+returns c = rw c.granting.ensures

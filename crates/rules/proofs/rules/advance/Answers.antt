@@ -1,0 +1,12 @@
+use Rattle.rules.proofs.Ways.{ways}
+use borrow.Author.Rules.{rules}
+use Rattle.rules.proofs.rules.advance.Goals as goal
+
+pub returns-then-p : goal.returns-then-p
+returns-then-p c = search ways
+
+pub returns-then-e-eq7 : goal.returns-then-e-eq7
+returns-then-e-eq7 c = search ways
+
+pub returns : goal.returns
+returns c = search ways

@@ -1,0 +1,8 @@
+use Rattle.rules.proofs.Ways.{ways}
+use Rattle.rules.proofs.rules.ended.Goals as goal
+
+pub returns-then-p : goal.returns-then-p
+returns-then-p c = search ways
+
+pub returns : goal.returns
+returns c = search ways

@@ -1,0 +1,9 @@
+use Rattle.rules.proofs.Ways.{ways}
+use borrow.Author.Rules.{rules}
+use Rattle.rules.proofs.rules.misordered.Goals as goal
+
+pub returns-then-p : goal.returns-then-p
+returns-then-p c = search ways
+
+pub returns : goal.returns
+returns c = search ways

@@ -1,0 +1,5 @@
+use borrow.Author.Rules.{rules}
+use Rattle.station.proofs.record.bad_sid.Goals as goal
+
+pub returns : goal.returns
+returns c = rw c.within.ensures
