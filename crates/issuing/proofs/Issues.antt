@@ -193,8 +193,8 @@ module _ (own old : List ℕ) (b : Bool) (is : b ≡ refuses (read_of own)) wher
   pub check_refused : b ≡ true → (true ≡ refuses (read_of own)) × (old ≡ accepted_into own old)
   check_refused e = let it = sym is ∙ e in (sym it, rw it refl)
 
-  pub check_accepted : (new : List ℕ) → b ≡ false → new ≡ take (length own) own ++ drop (length own) old → (false ≡ refuses (read_of own)) × (new ≡ accepted_into own old)
-  check_accepted new e p = let it = sym is ∙ e in (sym it, rw it (p ∙ rw (take-length own) refl))
+  pub check_accepted : (new : List ℕ) → b ≡ false → new ≡ own ++ drop (length own) old → (false ≡ refuses (read_of own)) × (new ≡ accepted_into own old)
+  check_accepted new e p = let it = sym is ∙ e in (sym it, rw it p)
 
 -- .. of the MAP at the front of the headend's own array
 pub checked_front : (h : Headend) (own : List ℕ) (ack c g : ℕ) (old new : List ℕ) (b : Bool) → take (24 + 4 * h.held) own ≡ message_by h ack c g → (b ≡ refuses (read_of (take (24 + 4 * h.held - 0) own))) × (new ≡ accepted_into (take (24 + 4 * h.held - 0) own) old) → (b ≡ refuses (read_of (message_by h ack c g))) × (new ≡ accepted_into (message_by h ack c g) old)

@@ -132,7 +132,7 @@ fn selfcheck(own: &[u8], out: &mut [u8]) -> bool
     if refuses(own) {
         return true;
     }
-    bytes::copy(own, out);
+    out[..own.len()].copy_from_slice(own);
     false
 }
 

@@ -10,6 +10,7 @@ use mathlib.Core.Path.{◌≡◌}
 use mathlib.Core.Logic.{⊎_elim}
 use borrow.Author.Rules.{rules}
 use Rattle.hearing.proofs.opportunity.find.Goals as goal
+use Rattle.hearing.proofs.opportunity.find.Goals.{then-e-sid, else-e-sid}
 
 pub loop-i-init : goal.loop-i-init
 loop-i-init c = (search null_early, search rules, search rules, search find_begins)
@@ -19,17 +20,16 @@ overflow_sub-next c = search rises_on
 
 pub loop-i-preserved : goal.loop-i-preserved
 loop-i-preserved c =
-    let here = c in
-    let ok = here.before.before.before.before.requires in
+    let ok = c.requires in
     let is = c.element_at-e.ensures in
-    let left = here.loop.invariant.3 in (
+    let left = c.loop-i.invariant.3 in (
       search rules,
       search rules,
-      ⊎_elim (λ w. search find_few) (λ w. search find_same) c.if-e-sid.branch,
-      ⊎_elim
-          (λ w. find_next _ _ ok _ _ _ _ _ _ _ _ (search rules) is left _ _ w.0.taken w.5 w.1.ensures w.4.ensures)
-          (λ w. find_other _ _ ok _ _ _ _ _ _ _ _ (search rules) is left w.1 w.0.left)
-          c.if-e-sid.branch,
+      elim c.if-e-sid.branch [ then-e-sid w ↦ search find_few | else-e-sid w ↦ search find_same ],
+      elim c.if-e-sid.branch [
+        then-e-sid w ↦ find_next _ _ ok _ _ _ _ _ _ _ _ (search rules) is left _ _ w.if-e-sid.true w.found-is w.element_at-next.ensures w.noted-found.ensures
+      | else-e-sid w ↦ find_other _ _ ok _ _ _ _ _ _ _ _ (search rules) is left w.found-is w.if-e-sid.false
+      ],
     )
 
 pub returns : goal.returns

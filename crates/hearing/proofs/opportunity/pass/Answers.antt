@@ -12,6 +12,7 @@ use mathlib.Core.Path.{◌≡◌}
 use mathlib.Core.Logic.{⊎_elim}
 use borrow.Author.Rules.{rules}
 use Rattle.hearing.proofs.opportunity.pass.Goals as goal
+use Rattle.hearing.proofs.opportunity.pass.Goals.{then-step-ne0+else-left-count, else-step-ne0}
 
 pub loop-i-init : goal.loop-i-init
 loop-i-init c = (search null_early, search rules, search pass_begins)
@@ -26,7 +27,7 @@ pub overflow_add-e : goal.overflow_add-e
 overflow_add-e c = record { fits = search place_after_fits }
 
 pub loop-i-preserved : goal.loop-i-preserved
-loop-i-preserved c = (search rules, search rules, ⊎_elim (λ w. search pass_next) (λ w. search pass_none) c.if-step-ne0.branch)
+loop-i-preserved c = (search rules, search rules, elim c.if-step-ne0.branch [ then-step-ne0+else-left-count w ↦ search pass_next | else-step-ne0 w ↦ search pass_none ])
 
 pub returns-then-reading-i : goal.returns-then-reading-i
 returns-then-reading-i c = search pass_end

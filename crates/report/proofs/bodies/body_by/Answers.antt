@@ -1,0 +1,9 @@
+use Rattle.report.proofs.Ways.{ways}
+use borrow.Author.Rules.{rules}
+use Rattle.report.proofs.bodies.body_by.Goals as goal
+
+pub returns-in-Accepted : goal.returns-in-Accepted
+returns-in-Accepted c = search ways
+
+pub returns-in-Refused : goal.returns-in-Refused
+returns-in-Refused c = search ways
