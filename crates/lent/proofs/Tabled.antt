@@ -1,6 +1,6 @@
 -- The loop of `hear_table`, as a function on lists: what k more turns from the place i make of the records and of the places; and that as many turns as there are records, from 0, make what the contract says.
 use mathlib.Core.Path.{◌≡◌, refl, ◌∙◌, ap, subst}
-use Prim.Native.Nat.{ℕ, zero, suc, ◌+◌, ◌≤◌, ◌<◌}
+use Prim.Native.Nat.{ℕ, zero, suc, ◌+◌, ◌-◌, ◌≤◌, ◌<◌}
 use native.Mathlib.Numerals.{add-one}
 use native.Mathlib.Omega.{arith}
 use mathlib.Core.Bool.{Bool, true, false, cond}
@@ -102,6 +102,13 @@ module _ (bytes : List ℕ) (present : ℕ) (draws : List ℕ) where
       go_p_is k (i + 1) (set xs i v) (set zs i w) (omega (arith, length-set xs i v)) (omega (arith, length-set xs i v)) (omega (arith, length-set xs i v, length-set zs i w))
       ∙ rw (add-one, take-suc-set zs i w c, drop-set-lt (suc i) xs i v (omega arith), drop-set-lt (suc i) zs i w (omega arith), drop-cons xs i none a, drop-cons draws i 0 b, drop-cons zs i 0 c, append_snoc)
 
+  -- a turn of the loop, from i to i + 1
+  pub turn_s : (n i : ℕ) (xs : List Station) (p : Placed) → i < n → p ≡ placed_at xs i → go_s (n - (i + 1)) (i + 1) (set xs i p.station) ≡ go_s (n - i) i xs
+  turn_s n i xs p l e = let left : n - i ≡ suc (n - (i + 1)) = omega arith in rw (left, e)
+
+  pub turn_p : (n i : ℕ) (xs : List Station) (zs : List ℕ) (p : Placed) → i < n → p ≡ placed_at xs i → go_p (n - (i + 1)) (i + 1) (set xs i p.station) (set zs i p.number) ≡ go_p (n - i) i xs zs
+  turn_p n i xs zs p l e = let left : n - i ≡ suc (n - (i + 1)) = omega arith in rw (left, e)
+
 module _ (bytes : List ℕ) (present : ℕ) (draws : List ℕ) (xs : List Station) (zs : List ℕ) where
   all_s : (b : Bool) → cond b (length xs) 0 ≤ length draws → go_s bytes present draws (cond b (length xs) 0) 0 xs ≡ cond b (records_after bytes present xs draws) xs
   all_s true l = go_s_is bytes present draws (length xs) 0 xs (omega arith) l
@@ -118,3 +125,14 @@ module _ (bytes : List ℕ) (present : ℕ) (draws : List ℕ) (xs : List Statio
   pub fit_p : go_p bytes present draws (fit_of (length xs) (length draws) (length zs)).n 0 xs zs ≡ places_of bytes present draws xs zs
   unfolding fit_of
   fit_p = all_p (eqb (table_fault (length xs) (length draws) (length zs)) 0) (within (length xs) (length draws) (length zs)).1.0 (within (length xs) (length draws) (length zs)).1.1
+
+  -- .. and the loop's end
+  module _ (f : Fit) (is : f ≡ fit_of (length xs) (length draws) (length zs)) (i : ℕ) (ended : f.n ≤ i) (now : List Station) where
+    none_left : f.n - i ≡ 0
+    none_left = omega arith
+
+    pub ends_s : go_s bytes present draws (f.n - i) i now ≡ go_s bytes present draws f.n 0 xs → now ≡ table_of bytes present draws xs zs
+    ends_s e = (rw none_left at e) ∙ rw is fit_s
+
+    pub ends_p : (at : List ℕ) → go_p bytes present draws (f.n - i) i now at ≡ go_p bytes present draws f.n 0 xs zs → at ≡ places_of bytes present draws xs zs
+    ends_p at e = (rw none_left at e) ∙ rw is fit_p

@@ -1,0 +1,6 @@
+use Rattle.lent.proofs.Tabled.{as_placed}
+use borrow.Author.Rules.{rules}
+use Rattle.lent.proofs.table.hear_at.Goals as goal
+
+pub returns : goal.returns
+returns c = as_placed c.hear-h.ensures c.number_in.ensures
