@@ -1,12 +1,12 @@
 -- A text put behind the used bytes, or left out.
 use mathlib.Core.Path.{◌≡◌, refl}
-use mathlib.Core.List.{List, [], ◌++◌, append-nil}
+use mathlib.Core.List.{List}
 use Prim.Native.Nat.{ℕ, ◌+◌, ◌-◌, ◌≤◌, ◌<◌}
 use native.Mathlib.Omega.{arith}
-use lib.ListN.{length, take, drop, length-drop, drop_of_length-le}
-use lib.Seq.{take_all, take-length, drop-drop}
+use lib.ListN.{length}
+use lib.Seq.{drop-drop}
 use borrow.Author.Tests.{le-leb, lt-leb}
-use borrow.Rule.Slice.PartMut.{mid_of, put_mid}
+use borrow.Rule.Slice.PartMut.{put_mid}
 use Rattle.stream.specs.Text.{bytes_with, used_with, too_many}
 
 module _ (used : ℕ) (text o : List ℕ) where
@@ -14,15 +14,13 @@ module _ (used : ℕ) (text o : List ℕ) where
   unfolding bytes_with used_with
   left_out h = simp (lt-leb (used + length text) (length o) h) (refl, refl)
 
-  -- the part from the used bytes on holds the text, and then what it held
-  pub put_in : (part : List ℕ) → used ≤ length o → length text ≤ length o - used → part ≡ take (length text) text ++ drop (length text) (mid_of used (length o - used) o) → (put_mid used (length o - used) o part ≡ bytes_with used text o) × (used + length text ≡ used_with used text o)
+  -- the part behind the used bytes, as long as the text, holds it
+  pub put_in : (part : List ℕ) → used ≤ length o → length text ≤ length o - used → part ≡ text → (put_mid used (used + length text - used) o part ≡ bytes_with used text o) × (used + length text ≡ used_with used text o)
   unfolding bytes_with used_with
   put_in part h l e =
-      let size = length-drop used o in
-      let rest : mid_of used (length o - used) o ≡ drop used o = take_all (length o - used) (drop used o) (omega arith) in
-      let end : drop (length o - used) (drop used o) ≡ [] = drop_of_length-le (drop used o) {i = length o - used} (omega arith) in
+      let size : used + length text - used ≡ length text = omega arith in
       simp (le-leb (used + length text) (length o) (omega arith))
-      (rw (e, end, rest, take-length text, drop-drop (length text) used o, append-nil) refl, refl)
+      (rw (e, size, drop-drop (length text) used o) refl, refl)
 
 -- once a text had no room none has, and the bytes stay
 pub stays_too_many : (text o : List ℕ) → length o < too_many → (o ≡ bytes_with too_many text o) × (too_many ≡ used_with too_many text o)

@@ -3,6 +3,7 @@
 #![tactic(auto)]
 
 pub mod reading;
+mod reason;
 pub mod telling;
 pub mod text;
 

@@ -1,5 +1,8 @@
 // Reading: a read that fails is told from the end of the input.
-ghost use Rattle.stream.specs.Reading.{Inside};
+ghost use Rattle.stream.specs.Reading.{Inside, Quiet, Came, CameWhole};
+
+use crate::telling::fail;
+use std::io::{Read, Write};
 
 // How many bytes came into the front of the lent ones; none where the input has ended.
 #[derive(Clone, Copy)]
@@ -9,24 +12,34 @@ pub enum Input {
 }
 
 // One read, for an input that is worked as it comes.
-pub fn some(fd: i32, name: &[u8], input: &mut [u8]) -> Input
-    ensures { Inside result input.new }
+pub fn some<R: Read, E: Write>(from: &mut R, errors: &mut E, name: &[u8], input: &mut [u8]) -> Input
+    ensures within { Inside result input.new }
+    ensures bytes { Came (R.remaining from.old) (R.remaining from.new) result input.new }
+    ensures quiet { Quiet result errors.old errors.new }
 {
-    let got = libc::read(fd, input);
-    if got < 0 {
-        os::fail(name);
-        return Input::Failed;
+    match from.read(input) {
+        Ok(n) => Input::Bytes(n),
+        Err(why) => {
+            fail(errors, name, &why);
+            Input::Failed
+        }
     }
-    Input::Bytes(io::count(got, input))
 }
 
 // Reads until the lent bytes are full or the input ends, also from a pipe that trickles.
-pub fn whole(fd: i32, name: &[u8], input: &mut [u8]) -> Input
-    ensures { Inside result input.new }
+pub fn whole<R: Read, E: Write>(
+    from: &mut R,
+    errors: &mut E,
+    name: &[u8],
+    input: &mut [u8],
+) -> Input
+    ensures within { Inside result input.new }
+    ensures bytes { CameWhole (R.remaining from.old) (R.remaining from.new) result input.new }
+    ensures quiet { Quiet result errors.old errors.new }
 {
     let mut at = 0;
     while at < input.len() {
-        let Input::Bytes(n) = some(fd, name, &mut input[at..]) else {
+        let Input::Bytes(n) = some(from, errors, name, &mut input[at..]) else {
             return Input::Failed;
         };
         if n == 0 {

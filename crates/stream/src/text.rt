@@ -18,7 +18,7 @@ pub fn put(text: &[u8], out: &mut [u8], used: &mut usize)
         *used = TOO_MANY;
         return;
     }
-    bytes::copy(text, &mut out[from..]);
+    out[from..from + text.len()].copy_from_slice(text);
     *used = from + text.len();
 }
 
