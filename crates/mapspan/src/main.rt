@@ -6,20 +6,34 @@ use report::Reported;
 use stream::Input;
 
 // ROOM is enough for every input; were it not, that would be said.
-fn told(input: &[u8]) {
+fn told(rt: &HostRuntime, input: &[u8]) {
     let mut out = [0u8; Reported::ROOM];
     match report::report(input, &mut out) {
         Reported::Length(length) => {
-            stream::tell(1, b"mapspan: standard output", &out[..length]);
+            stream::tell(
+                &mut rt.stdout(),
+                &mut rt.stderr(),
+                b"mapspan: standard output",
+                &out[..length],
+            );
         }
-        Reported::Refused(_) => stream::complain(b"mapspan", b"no room for the report"),
+        Reported::Refused(_) => stream::complain(
+            &mut rt.stderr(),
+            b"mapspan",
+            b"no room for the report",
+        ),
     }
 }
 
-fn main() {
+fn main(rt: HostRuntime) {
     let mut input = [0u8; 65537];
-    let Input::Bytes(n) = stream::whole(0, b"mapspan: standard input", &mut input) else {
+    let Input::Bytes(n) = stream::whole(
+        &mut rt.stdin(),
+        &mut rt.stderr(),
+        b"mapspan: standard input",
+        &mut input,
+    ) else {
         return;
     };
-    told(&input[..n]);
+    told(&rt, &input[..n]);
 }
