@@ -31,8 +31,14 @@ struct Reply {
     pub told: bool,
 }
 
-fn told(out: &Room, used: usize) -> bool {
-    stream::tell_line(1, b"replay: standard output", out, used)
+fn told(rt: &HostRuntime, out: &Room, used: usize) -> bool {
+    stream::tell_line(
+        &mut rt.stdout(),
+        &mut rt.stderr(),
+        b"replay: standard output",
+        out,
+        used,
+    )
 }
 
 // The places after one line.
@@ -47,25 +53,25 @@ fn answered(places: Places, line: &[u8], out: &mut Room, used: &mut usize) -> Pl
 }
 
 // One write for each line.
-fn replied(places: Places, line: &[u8]) -> Reply {
+fn replied(rt: &HostRuntime, places: Places, line: &[u8]) -> Reply {
     let mut out: Room = [0; 8192];
     let mut used = 0;
     let places = answered(places, line, &mut out, &mut used);
     say(words::LINE_END, &mut out, &mut used);
     Reply {
         places,
-        told: told(&out, used),
+        told: told(rt, &out, used),
     }
 }
 
 // An empty line has no answer; where one can't be written, the run ends.
-fn run(script: &[u8]) {
+fn run(rt: &HostRuntime, script: &[u8]) {
     let mut places = Places::new();
     let mut at = 0;
     while at < script.len() {
         let end = end_before(script, at, b'\n');
         if at < end {
-            let reply = replied(places, &script[at..end]);
+            let reply = replied(rt, places, &script[at..end]);
             if !reply.told {
                 return;
             }
@@ -83,15 +89,20 @@ fn input() -> [u8; 1048577]
     [0; 1048577]
 }
 
-fn main() {
+fn main(rt: HostRuntime) {
     let mut input = input();
-    let Input::Bytes(n) = stream::whole(0, b"replay: standard input", &mut input) else {
+    let Input::Bytes(n) = stream::whole(
+        &mut rt.stdin(),
+        &mut rt.stderr(),
+        b"replay: standard input",
+        &mut input,
+    ) else {
         return;
     };
     // Answered as one line that is no call.
     if MOST_INPUT < n {
-        run(b"bad");
+        run(&rt, b"bad");
         return;
     }
-    run(&input[..n]);
+    run(&rt, &input[..n]);
 }
