@@ -21,7 +21,7 @@ use Rattle.headend.specs.Requests.{held_of}
 use Rattle.headend.specs.Records as records
 use Rattle.channel.specs.History.{State, station_at}
 use Rattle.channel.specs.Claims.{FreshHeadend, FreshStation, Fresh}
-use Rattle.channel.proofs.Timing.{at, at_base}
+use Rattle.channel.proofs.Timing.{at_base}
 use Rattle.channel.proofs.Keeping.{and_left, and_right}
 use Rattle.channel.proofs.Holding.{Places}
 use Rattle.channel.proofs.Invariant.{Steady, Inv}

@@ -7,7 +7,7 @@ use native.Mathlib.Omega.{arith}
 use native.Mathlib.Nat.{zero-add, sub-zero}
 use lib.Dec.{ltb, eqb}
 use lib.ListN.{length, take, drop, get_or, set, replicate, length-append}
-use lib.Seq.{set_at, take_at, take-length}
+use lib.Seq.{set_at, take_at}
 use borrow.Author.Tests.{eq-eqb, ne_eqb, ltb-false, eqb-false, le-leb}
 use Rattle.slots.specs.declared.time.MiniSlot.{MiniSlot}
 use Rattle.slots.specs.Time.{ahead, moved_on}

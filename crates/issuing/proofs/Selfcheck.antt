@@ -14,7 +14,7 @@ use Rattle.rules.specs.declared.rules.Walked.TheVariants.{Whole}
 use Rattle.message.specs.declared.reading.Verdict.TheVariants.{Accepted}
 use Rattle.rules.specs.Sids.{within, unicast, sid_allowed}
 use Rattle.rules.specs.Backoffs.{bad_backoffs}
-use Rattle.rules.specs.Rules.{granting, misordered, misplaced, fault_of, nothing_yet, advanced, ended_at, walked}
+use Rattle.rules.specs.Rules.{misordered, misplaced, fault_of, nothing_yet, advanced, ended_at, walked}
 use Rattle.message.specs.Map.{map_length}
 use Rattle.message.specs.Reading.{map_of, read_of}
 use Rattle.rules.proofs.Ways.{no_fault}

@@ -5,7 +5,7 @@ use Prim.Native.Nat.{ℕ, zero, suc, ◌+◌, ◌*◌, ◌≤◌, ◌<◌}
 use native.Mathlib.Omega.{arith}
 use native.Mathlib.Nat.{zero-add}
 use lib.ListN.{length, take, drop, set, length-append, take-append-drop, length-drop}
-use lib.Seq.{sets-eq, take_at, drop_at, drop-drop, length-take-le, take-length}
+use lib.Seq.{sets-eq, take_at, drop_at, drop-drop, length-take-le}
 use Rattle.message.proofs.Lists.{length_listed, listed_last}
 use Rattle.message.proofs.Ways.{said, said_not}
 use Rattle.rules.specs.declared.element.Element.{Element}

@@ -1,5 +1,4 @@
 use Rattle.backoff.proofs.Ways.{draw_ways}
-use borrow.Author.Rules.{rules}
 use Rattle.backoff.proofs.backoff.drawn.Goals as goal
 
 pub returns-then-exponent-gt-LARGEST_EXPONENT : goal.returns-then-exponent-gt-LARGEST_EXPONENT

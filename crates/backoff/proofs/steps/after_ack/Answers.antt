@@ -1,5 +1,4 @@
 use Rattle.backoff.proofs.Ways.{step_ways, acknowledged_other}
-use borrow.Author.Rules.{rules}
 use Rattle.backoff.proofs.steps.after_ack.Goals as goal
 
 pub returns-then-pending : goal.returns-then-pending

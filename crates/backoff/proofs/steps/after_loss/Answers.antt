@@ -1,5 +1,4 @@
 use Rattle.backoff.proofs.Ways.{step_ways}
-use borrow.Author.Rules.{rules}
 use Rattle.backoff.proofs.steps.after_loss.Goals as goal
 
 pub returns-then-retries-ge-MOST_RETRIES : goal.returns-then-retries-ge-MOST_RETRIES

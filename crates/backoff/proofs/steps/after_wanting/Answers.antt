@@ -1,5 +1,4 @@
 use Rattle.backoff.proofs.Ways.{step_ways, deferred_other}
-use borrow.Author.Rules.{rules}
 use Rattle.backoff.proofs.steps.after_wanting.Goals as goal
 
 pub returns-in-Wanting : goal.returns-in-Wanting

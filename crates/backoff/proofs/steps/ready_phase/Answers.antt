@@ -1,5 +1,4 @@
 use Rattle.backoff.proofs.Ways.{ready}
-use borrow.Author.Rules.{rules}
 use Rattle.backoff.proofs.steps.ready_phase.Goals as goal
 
 pub returns : goal.returns

@@ -2,7 +2,6 @@ use Rattle.message.specs.declared.grants.Granted.{Granted}
 use mathlib.Core.Path.{◌∙◌}
 use Rattle.firmware.specs.Calls.{grant_code, grant_into}
 use Rattle.firmware.proofs.Ways.{carried}
-use borrow.Author.Rules.{rules}
 use Rattle.firmware.proofs.calls.wickbadger_grant.Goals as goal
 
 pub returns-in-At : goal.returns-in-At

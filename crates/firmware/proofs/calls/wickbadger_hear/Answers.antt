@@ -4,7 +4,6 @@ use mathlib.Core.List.{[], ◌∷◌}
 use mathlib.Core.Path.{◌∙◌, sym, ap}
 use Rattle.firmware.specs.Calls.{heard_code, heard_into, heard_answer}
 use Rattle.firmware.proofs.Ways.{hear_none, hear_told}
-use borrow.Author.Rules.{rules}
 use Rattle.firmware.proofs.calls.wickbadger_hear.Goals as goal
 
 pub returns-then-out_of_range : goal.returns-then-out_of_range

@@ -3,7 +3,6 @@ use Rattle.message.proofs.Ways.{said}
 use mathlib.Core.Path.{◌∙◌, sym, ap}
 use Rattle.firmware.specs.Calls.{offered_code, offered_into}
 use Rattle.firmware.proofs.Ways.{offer_none, offer_told}
-use borrow.Author.Rules.{rules}
 use Rattle.firmware.proofs.calls.wickbadger_offer.Goals as goal
 
 pub returns-then-out_of_range : goal.returns-then-out_of_range

@@ -2,7 +2,6 @@ use Rattle.message.specs.declared.reading.Verdict.{Verdict}
 use mathlib.Core.Path.{◌∙◌}
 use Rattle.firmware.specs.Calls.{read_code, read_into}
 use Rattle.firmware.proofs.Ways.{carried}
-use borrow.Author.Rules.{rules}
 use Rattle.firmware.proofs.calls.wickbadger_read.Goals as goal
 
 pub returns-in-Accepted : goal.returns-in-Accepted

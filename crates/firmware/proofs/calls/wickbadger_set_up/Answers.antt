@@ -2,7 +2,6 @@ use Rattle.station.specs.declared.record.SetUp.{SetUp}
 use mathlib.Core.Path.{◌∙◌}
 use Rattle.firmware.specs.Calls.{set_up_code, set_up_into}
 use Rattle.firmware.proofs.Ways.{carried}
-use borrow.Author.Rules.{rules}
 use Rattle.firmware.proofs.calls.wickbadger_set_up.Goals as goal
 
 pub returns-in-Ready : goal.returns-in-Ready

@@ -1,5 +1,4 @@
 use Rattle.firmware.proofs.Ways.{as_numbers}
-use borrow.Author.Rules.{rules}
 use Rattle.firmware.proofs.layout.numbers.Goals as goal
 
 pub returns : goal.returns

@@ -1,5 +1,4 @@
 use Rattle.firmware.proofs.Ways.{layout_ways}
-use borrow.Author.Rules.{rules}
 use Rattle.firmware.proofs.layout.out_of_range.Goals as goal
 
 pub returns-then-rec : goal.returns-then-rec

@@ -1,6 +1,5 @@
 use Rattle.firmware.specs.Layout.{parts_of}
 use mathlib.Core.Path.{sym, ◌∙◌, ap}
-use borrow.Author.Rules.{rules}
 use Rattle.firmware.proofs.layout.parts_of.Goals as goal
 
 pub returns-in-Idle : goal.returns-in-Idle

@@ -1,7 +1,6 @@
 use Rattle.firmware.specs.Layout.{phase_of}
 use mathlib.Core.Path.{◌∙◌, ap}
 use Rattle.firmware.proofs.Ways.{channel_fits, count_fits, as_station}
-use borrow.Author.Rules.{rules}
 use Rattle.firmware.proofs.layout.station_of.Goals as goal
 
 pub overflow_cast-result : goal.overflow_cast-result

@@ -1,12 +1,9 @@
-use borrow.Author.Rules.{rules}
 use Prim.Native.Nat.{◌-◌, ◌≤◌}
 use mathlib.Core.Path.{◌≡◌}
 use lib.ListN.{get_or}
 use lib.Dec.{eqb}
 use Rattle.message.specs.Lists.{listed}
 use Rattle.headend.specs.Records.{any}
-use Rattle.headend.proofs.Scans.{any_begins, any_end, any_hit, any_next}
-use borrow.Author.Tests.{eq-eqb, ne_eqb}
 use Rattle.headend.proofs.request.any_is.Given as goal
 
 abbrev pub invariant-loop-i : goal.invariant-loop-i

@@ -1,5 +1,4 @@
 use Rattle.headend.proofs.Checks.{joins}
-use borrow.Author.Rules.{rules}
 use Rattle.headend.proofs.request.joined.Goals as goal
 
 pub returns : goal.returns

@@ -1,6 +1,5 @@
 use mathlib.Core.Bool.{not}
 use mathlib.Core.Path.{ap}
-use borrow.Author.Rules.{rules}
 use Rattle.headend.proofs.request.not_earlier.Goals as goal
 
 pub returns : goal.returns

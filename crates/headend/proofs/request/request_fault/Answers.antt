@@ -1,5 +1,4 @@
 use Rattle.headend.proofs.Checks.{request_ways}
-use borrow.Author.Rules.{rules}
 use Rattle.headend.proofs.request.request_fault.Goals as goal
 
 pub returns-then-number-ne0 : goal.returns-then-number-ne0

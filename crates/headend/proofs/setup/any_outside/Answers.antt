@@ -1,12 +1,5 @@
 use Rattle.message.proofs.Ways.{said}
 use borrow.Author.Rules.{rules}
-use Prim.Native.Nat.{◌-◌, ◌≤◌}
-use mathlib.Core.Path.{◌≡◌}
-use mathlib.Core.Bool.{not}
-use lib.ListN.{get_or}
-use Rattle.rules.specs.Sids.{within}
-use Rattle.message.specs.Lists.{listed}
-use Rattle.headend.specs.Records.{any}
 use Rattle.headend.proofs.Scans.{any_begins, any_end, any_hit, any_next}
 use Rattle.headend.proofs.setup.any_outside.Goals as goal
 

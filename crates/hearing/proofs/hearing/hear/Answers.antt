@@ -1,5 +1,4 @@
 use Rattle.hearing.proofs.Ways.{hear_record, hear_message}
-use borrow.Author.Rules.{rules}
 use Rattle.hearing.proofs.hearing.hear.Goals as goal
 
 pub returns-then-f-ne0 : goal.returns-then-f-ne0

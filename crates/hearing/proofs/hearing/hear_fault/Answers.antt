@@ -1,5 +1,4 @@
 use Rattle.hearing.proofs.Ways.{hear_ways}
-use borrow.Author.Rules.{rules}
 use Rattle.hearing.proofs.hearing.hear_fault.Goals as goal
 
 pub returns-then-fields-st : goal.returns-then-fields-st

@@ -1,5 +1,4 @@
 use Rattle.hearing.proofs.Ways.{hear_refused, hear_heard}
-use borrow.Author.Rules.{rules}
 use Rattle.hearing.proofs.hearing.hear_map.Goals as goal
 
 pub returns-then-f-ne0 : goal.returns-then-f-ne0

@@ -1,5 +1,4 @@
 use Rattle.hearing.proofs.Ways.{verdict_read, verdict_refused, verdict_accepted}
-use borrow.Author.Rules.{rules}
 use Rattle.hearing.proofs.hearing.hear_verdict.Goals as goal
 
 pub hear_map-requires : goal.hear_map-requires

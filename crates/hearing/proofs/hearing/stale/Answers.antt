@@ -1,5 +1,4 @@
 use Rattle.hearing.proofs.Ways.{hear_ways}
-use borrow.Author.Rules.{rules}
 use Rattle.hearing.proofs.hearing.stale.Goals as goal
 
 pub returns-in-Nothing : goal.returns-in-Nothing

@@ -1,13 +1,4 @@
 use Rattle.hearing.proofs.Scanning.{null_early, rises_on, find_begins, find_end, find_next, find_other, find_few, find_same}
-use Rattle.message.specs.Lists.{listed}
-use Rattle.hearing.specs.Scan.{found_in}
-use Rattle.hearing.specs.declared.answer.Sent.TheVariants.{Nothing}
-use Rattle.message.specs.Reading.{map_of}
-use Rattle.message.specs.Map.{intervals}
-use Rattle.message.specs.Element.{element_at}
-use Prim.Native.Nat.{◌-◌, ◌≤◌, ◌<◌}
-use mathlib.Core.Path.{◌≡◌}
-use mathlib.Core.Logic.{⊎_elim}
 use borrow.Author.Rules.{rules}
 use Rattle.hearing.proofs.opportunity.find.Goals as goal
 use Rattle.hearing.proofs.opportunity.find.Goals.{then-e-sid, else-e-sid}
@@ -27,8 +18,8 @@ loop-i-preserved c =
       search rules,
       elim c.if-e-sid.branch [ then-e-sid w ↦ search find_few | else-e-sid w ↦ search find_same ],
       elim c.if-e-sid.branch [
-        then-e-sid w ↦ find_next _ _ ok _ _ _ _ _ _ _ _ (search rules) is left _ _ w.if-e-sid.true w.found-is w.element_at-next.ensures w.noted-found.ensures
-      | else-e-sid w ↦ find_other _ _ ok _ _ _ _ _ _ _ _ (search rules) is left w.found-is w.if-e-sid.false
+        | then-e-sid w ↦ find_next _ _ ok _ _ _ _ _ _ _ _ (search rules) is left _ _ w.if-e-sid.true w.found-is w.element_at-next.ensures w.noted-found.ensures
+        | else-e-sid w ↦ find_other _ _ ok _ _ _ _ _ _ _ _ (search rules) is left w.found-is w.if-e-sid.false
       ],
     )
 

@@ -1,4 +1,3 @@
-use Rattle.hearing.proofs.Scanning.{null_early, rises_on, find_begins, find_end, find_next, find_other, find_few, find_same}
 use Rattle.message.specs.Lists.{listed}
 use Rattle.hearing.specs.Scan.{found_in}
 use Rattle.hearing.specs.declared.answer.Sent.TheVariants.{Nothing}
@@ -7,8 +6,6 @@ use Rattle.message.specs.Map.{intervals}
 use Rattle.message.specs.Element.{element_at}
 use Prim.Native.Nat.{◌-◌, ◌≤◌, ◌<◌}
 use mathlib.Core.Path.{◌≡◌}
-use mathlib.Core.Logic.{⊎_elim}
-use borrow.Author.Rules.{rules}
 use Rattle.hearing.proofs.opportunity.find.Given as goal
 
 abbrev pub invariant-loop-i : goal.invariant-loop-i

@@ -1,5 +1,4 @@
 use Rattle.hearing.proofs.Scanning.{scan_ways}
-use borrow.Author.Rules.{rules}
 use Rattle.hearing.proofs.opportunity.first_of.Goals as goal
 
 pub returns-in-Nothing : goal.returns-in-Nothing

@@ -1,4 +1,3 @@
-use borrow.Author.Rules.{rules}
 use Rattle.hearing.proofs.opportunity.granted_to.Goals as goal
 
 pub returns : goal.returns

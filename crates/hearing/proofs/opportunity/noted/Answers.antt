@@ -1,5 +1,4 @@
 use Rattle.hearing.proofs.Scanning.{scan_ways}
-use borrow.Author.Rules.{rules}
 use Rattle.hearing.proofs.opportunity.noted.Goals as goal
 
 pub returns-then-granting : goal.returns-then-granting

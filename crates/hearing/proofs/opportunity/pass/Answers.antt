@@ -1,15 +1,4 @@
 use Rattle.hearing.proofs.Scanning.{null_early, rises_on, place_fits, place_after_fits, pass_begins, pass_end, pass_next, pass_none, pass_sends}
-use Rattle.hearing.specs.Steps.{passing}
-use Rattle.hearing.specs.Opportunities.{contention_in, contention}
-use Rattle.message.specs.Reading.{map_of}
-use Rattle.message.specs.Map.{intervals}
-use Rattle.message.specs.Lists.{listed, gather}
-use Rattle.message.specs.Element.{element_at}
-use Rattle.slots.specs.Time.{moved_on}
-use Prim.Native.Nat.{◌-◌, ◌≤◌, ◌<◌}
-use mathlib.Core.List.{map}
-use mathlib.Core.Path.{◌≡◌}
-use mathlib.Core.Logic.{⊎_elim}
 use borrow.Author.Rules.{rules}
 use Rattle.hearing.proofs.opportunity.pass.Goals as goal
 use Rattle.hearing.proofs.opportunity.pass.Goals.{then-step-ne0+else-left-count, else-step-ne0}

@@ -1,4 +1,3 @@
-use Rattle.hearing.proofs.Scanning.{null_early, rises_on, place_fits, place_after_fits, pass_begins, pass_end, pass_next, pass_none, pass_sends}
 use Rattle.hearing.specs.Steps.{passing}
 use Rattle.hearing.specs.Opportunities.{contention_in, contention}
 use Rattle.message.specs.Reading.{map_of}
@@ -9,8 +8,6 @@ use Rattle.slots.specs.Time.{moved_on}
 use Prim.Native.Nat.{◌-◌, ◌≤◌, ◌<◌}
 use mathlib.Core.List.{map}
 use mathlib.Core.Path.{◌≡◌}
-use mathlib.Core.Logic.{⊎_elim}
-use borrow.Author.Rules.{rules}
 use Rattle.hearing.proofs.opportunity.pass.Given as goal
 
 abbrev pub invariant-loop-i : goal.invariant-loop-i

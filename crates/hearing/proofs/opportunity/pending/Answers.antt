@@ -1,11 +1,4 @@
-use Rattle.hearing.proofs.Scanning.{few, null_next, null_next_fits, pending_from, pending_begins, pending_end, pending_found, pending_next}
-use Rattle.message.specs.Reading.{map_of}
-use Rattle.message.specs.Map.{pendings_to}
-use Rattle.message.specs.Lists.{is_empty}
-use Rattle.message.specs.Element.{element_at}
-use Prim.Native.Nat.{◌-◌, ◌≤◌}
-use mathlib.Core.Bool.{not}
-use mathlib.Core.Path.{◌≡◌}
+use Rattle.hearing.proofs.Scanning.{few, null_next, null_next_fits, pending_begins, pending_end, pending_found, pending_next}
 use borrow.Author.Rules.{rules}
 use Rattle.hearing.proofs.opportunity.pending.Goals as goal
 

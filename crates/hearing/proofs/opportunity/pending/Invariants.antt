@@ -1,4 +1,4 @@
-use Rattle.hearing.proofs.Scanning.{few, null_next, null_next_fits, pending_from, pending_begins, pending_end, pending_found, pending_next}
+use Rattle.hearing.proofs.Scanning.{pending_from}
 use Rattle.message.specs.Reading.{map_of}
 use Rattle.message.specs.Map.{pendings_to}
 use Rattle.message.specs.Lists.{is_empty}
@@ -6,7 +6,6 @@ use Rattle.message.specs.Element.{element_at}
 use Prim.Native.Nat.{◌-◌, ◌≤◌}
 use mathlib.Core.Bool.{not}
 use mathlib.Core.Path.{◌≡◌}
-use borrow.Author.Rules.{rules}
 use Rattle.hearing.proofs.opportunity.pending.Given as goal
 
 abbrev pub invariant-loop-i : goal.invariant-loop-i

@@ -1,5 +1,4 @@
 use Rattle.hearing.proofs.Scanning.{scan_ways}
-use borrow.Author.Rules.{rules}
 use Rattle.hearing.proofs.opportunity.step_of.Goals as goal
 
 pub returns-then-e-eq-BROADCAST : goal.returns-then-e-eq-BROADCAST

@@ -1,5 +1,4 @@
 use Rattle.hearing.proofs.Ways.{step_ways}
-use borrow.Author.Rules.{rules}
 use Rattle.hearing.proofs.opportunity.waiting_with_pending.Goals as goal
 
 pub returns-in-Waiting : goal.returns-in-Waiting

@@ -1,5 +1,4 @@
 use Rattle.hearing.proofs.Ways.{send_ways}
-use borrow.Author.Rules.{rules}
 use Rattle.hearing.proofs.steps.after_deferring.Goals as goal
 
 pub returns-in-At : goal.returns-in-At

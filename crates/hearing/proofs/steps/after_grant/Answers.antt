@@ -1,5 +1,4 @@
 use Rattle.hearing.proofs.Ways.{step_ways}
-use borrow.Author.Rules.{rules}
 use Rattle.hearing.proofs.steps.after_grant.Goals as goal
 
 pub returns-then-pending : goal.returns-then-pending

@@ -1,5 +1,4 @@
 use Rattle.hearing.proofs.Ways.{send_ways}
-use borrow.Author.Rules.{rules}
 use Rattle.hearing.proofs.steps.sent_by.Goals as goal
 
 pub returns-in-Deferring : goal.returns-in-Deferring

@@ -1,5 +1,4 @@
 use Rattle.hearing.proofs.Ways.{send_ways}
-use borrow.Author.Rules.{rules}
 use Rattle.hearing.proofs.steps.waiting_since.Goals as goal
 
 pub returns-in-Waiting : goal.returns-in-Waiting

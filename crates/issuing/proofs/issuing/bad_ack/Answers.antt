@@ -1,5 +1,4 @@
 use Rattle.issuing.proofs.Issues.{ack_compared}
-use borrow.Author.Rules.{rules}
 use Rattle.issuing.proofs.issuing.bad_ack.Goals as goal
 
 pub returns : goal.returns

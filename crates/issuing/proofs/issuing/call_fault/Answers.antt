@@ -1,5 +1,4 @@
 use Rattle.issuing.proofs.Issues.{call_fault_is}
-use borrow.Author.Rules.{rules}
 use Rattle.issuing.proofs.issuing.call_fault.Goals as goal
 
 pub returns : goal.returns

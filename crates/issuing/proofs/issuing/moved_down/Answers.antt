@@ -1,9 +1,6 @@
 use borrow.Author.Rules.{rules}
-use Prim.Native.Nat.{◌-◌, ◌≤◌}
-use mathlib.Core.Path.{◌≡◌, refl}
+use mathlib.Core.Path.{refl}
 use lib.ListN.{get_or}
-use Rattle.message.specs.Lists.{listed}
-use Rattle.issuing.specs.Issue.{places_of}
 use Rattle.issuing.proofs.Issues.{moved_none, moved_more, moved_all}
 use Rattle.issuing.proofs.issuing.moved_down.Goals as goal
 

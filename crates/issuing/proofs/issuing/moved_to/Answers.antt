@@ -1,5 +1,4 @@
 use Rattle.issuing.proofs.Issues.{moves}
-use borrow.Author.Rules.{rules}
 use Rattle.issuing.proofs.issuing.moved_to.Goals as goal
 
 pub returns : goal.returns

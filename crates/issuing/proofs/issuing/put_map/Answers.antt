@@ -1,5 +1,4 @@
 use Rattle.issuing.proofs.Issues.{checked_front}
-use borrow.Author.Rules.{rules}
 use Rattle.issuing.proofs.issuing.put_map.Goals as goal
 
 pub returns : goal.returns

@@ -1,5 +1,4 @@
 use Rattle.issuing.proofs.Issues.{refuses_none, refuses_some}
-use borrow.Author.Rules.{rules}
 use Rattle.issuing.proofs.issuing.refuses.Goals as goal
 
 pub returns-in-Accepted : goal.returns-in-Accepted

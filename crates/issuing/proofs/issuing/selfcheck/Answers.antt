@@ -1,7 +1,6 @@
 use mathlib.Core.Path.{◌≡◌}
 use mathlib.Core.List.{◌++◌}
 use lib.ListN.{length, drop}
-use borrow.Author.Rules.{rules}
 use Rattle.issuing.proofs.Issues.{check_refused, check_accepted}
 use Rattle.issuing.proofs.issuing.selfcheck.Goals as goal
 

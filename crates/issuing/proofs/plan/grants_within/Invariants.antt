@@ -1,8 +1,5 @@
-use mathlib.Core.Logic.{⊎_elim}
-use borrow.Author.Rules.{rules}
 use Prim.Native.Nat.{◌-◌}
-use mathlib.Core.Path.{refl}
-use Rattle.issuing.proofs.Plans.{Counted, count_begins, count_next, count_all, count_stops}
+use Rattle.issuing.proofs.Plans.{Counted}
 use Rattle.issuing.proofs.plan.grants_within.Given as goal
 
 abbrev pub invariant-loop-count : goal.invariant-loop-count

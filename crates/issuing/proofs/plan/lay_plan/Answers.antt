@@ -1,6 +1,5 @@
-use Prim.Native.Nat.{◌-◌}
 use native.Mathlib.Nat.{sub-zero}
-use Rattle.issuing.proofs.Plans.{Filled, fill_begins, fill_fits, fill_next, fill_ends, lays}
+use Rattle.issuing.proofs.Plans.{fill_begins, fill_fits, fill_next, fill_ends, lays}
 use borrow.Author.Rules.{rules}
 use Rattle.issuing.proofs.plan.lay_plan.Goals as goal
 

@@ -1,5 +1,4 @@
 use Rattle.issuing.proofs.Plans.{plan_ways}
-use borrow.Author.Rules.{rules}
 use Rattle.issuing.proofs.plan.use_by.Goals as goal
 
 pub returns-then-k-g : goal.returns-then-k-g

@@ -1,4 +1,4 @@
-use Rattle.std.proofs.Common.{rules, ◌≤◌, arith}
+use Rattle.std.proofs.Common.{rules}
 use Rattle.lent.proofs.Forties.{inside}
 use Rattle.lent.proofs.forty.hear_forty.Goals as goal
 

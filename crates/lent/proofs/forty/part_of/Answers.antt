@@ -1,5 +1,4 @@
 use Rattle.lent.proofs.Forties.{windows}
-use borrow.Author.Rules.{rules}
 use Rattle.lent.proofs.forty.part_of.Goals as goal
 
 pub returns-then-first-gt40 : goal.returns-then-first-gt40

@@ -1,5 +1,4 @@
 use Rattle.lent.proofs.Tabled.{as_placed}
-use borrow.Author.Rules.{rules}
 use Rattle.lent.proofs.table.hear_at.Goals as goal
 
 pub returns : goal.returns

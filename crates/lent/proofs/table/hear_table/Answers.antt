@@ -1,7 +1,7 @@
-use Rattle.std.proofs.Common.{◌≡◌, ◌-◌, ◌∙◌, ap, length, arith}
+use Rattle.std.proofs.Common.{◌∙◌, ap, length, arith}
 use Rattle.std.proofs.Math.Nat.{sub-zero}
 use Rattle.lent.specs.declared.table.Fit.{Fit}
-use Rattle.lent.proofs.Tabled.{go_s, go_p, within, fit_code, turn_s, turn_p, ends_s, ends_p}
+use Rattle.lent.proofs.Tabled.{within, fit_code, turn_s, turn_p, ends_s, ends_p}
 use Rattle.lent.proofs.table.hear_table.Goals as goal
 
 pub loop-i-init : goal.loop-i-init
@@ -33,8 +33,7 @@ pub returns : goal.returns
 returns c =
     let l = c.loop-i in
     let a = c.args in
-    let code = ap (λ (f : Fit). f.code) c.fits-f.ensures ∙ fit_code (length a.table.now) (length a.draws.now) (length a.places.now) in
-    (
+    let code = ap (λ (f : Fit). f.code) c.fits-f.ensures ∙ fit_code (length a.table.now) (length a.draws.now) (length a.places.now) in (
       code,
       (
         ends_s a.bytes.now a.present.0 a.draws.now a.table.now a.places.now c.fits-f.result c.fits-f.ensures l.i c.loop-i-test.false l.table l.invariant.records,

@@ -1,5 +1,4 @@
 use Rattle.message.proofs.Parting.{part_accepted, part_refused}
-use borrow.Author.Rules.{rules}
 use Rattle.message.proofs.after.after_null.Goals as goal
 
 pub returns-in-Accepted : goal.returns-in-Accepted

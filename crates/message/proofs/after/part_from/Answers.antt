@@ -1,5 +1,4 @@
 use Rattle.message.proofs.Parting.{part_none, part_rest}
-use borrow.Author.Rules.{rules}
 use mathlib.Core.Path.{refl}
 use native.Mathlib.Omega.{arith}
 use Rattle.message.proofs.after.part_from.Goals as goal

@@ -1,6 +1,5 @@
 use Rattle.message.specs.Element.{element_of}
 use mathlib.Core.Path.{◌∙◌, ap}
-use borrow.Author.Rules.{rules}
 use Rattle.message.proofs.element.element_in.Goals as goal
 
 pub returns : goal.returns

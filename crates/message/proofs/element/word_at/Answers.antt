@@ -1,6 +1,5 @@
 use mathlib.Core.Path.{◌∙◌}
 use Rattle.message.specs.Element.{word_at}
-use borrow.Author.Rules.{rules}
 use Rattle.message.proofs.element.word_at.Goals as goal
 
 pub returns : goal.returns

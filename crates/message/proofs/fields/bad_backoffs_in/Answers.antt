@@ -1,6 +1,5 @@
 use Rattle.rules.specs.Backoffs.{bad_backoffs}
 use mathlib.Core.Path.{◌∙◌, ap}
-use borrow.Author.Rules.{rules}
 use Rattle.message.proofs.fields.bad_backoffs_in.Goals as goal
 
 pub returns : goal.returns

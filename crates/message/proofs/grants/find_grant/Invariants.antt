@@ -1,10 +1,8 @@
-use borrow.Author.Rules.{rules}
 use Rattle.message.specs.Grants.{kth_grant}
 use Rattle.message.specs.Lists.{listed}
 use Rattle.message.specs.Element.{element_at}
 use Prim.Native.Nat.{◌-◌, ◌≤◌}
-use mathlib.Core.Path.{◌≡◌, refl}
-use Rattle.message.proofs.Granting.{past_end, scan_begins, scan_end, scan_null, scan_next, scans}
+use mathlib.Core.Path.{◌≡◌}
 use Rattle.message.proofs.grants.find_grant.Given as goal
 
 abbrev pub invariant-loop-i : goal.invariant-loop-i

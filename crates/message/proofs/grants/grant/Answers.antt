@@ -1,7 +1,6 @@
 use native.Mathlib.Omega.{arith}
 use Rattle.message.proofs.Accepted.{accepted, checked_whole, checked_fault}
 use Rattle.message.proofs.Granting.{grant_refused, grant_read}
-use borrow.Author.Rules.{rules}
 use Rattle.message.proofs.grants.grant.Goals as goal
 
 pub fields_of-fields-requires : goal.fields_of-fields-requires

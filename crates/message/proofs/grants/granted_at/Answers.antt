@@ -1,5 +1,4 @@
 use Rattle.message.proofs.Granting.{granted_at_lem}
-use borrow.Author.Rules.{rules}
 use Rattle.message.proofs.grants.granted_at.Goals as goal
 
 pub returns-in-At : goal.returns-in-At

@@ -1,5 +1,4 @@
 use Rattle.message.specs.Scan.{grants_sid}
-use borrow.Author.Rules.{rules}
 use Rattle.message.proofs.grants.grants_sid.Goals as goal
 
 pub returns : goal.returns

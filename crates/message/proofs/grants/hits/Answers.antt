@@ -1,5 +1,4 @@
 use Rattle.message.specs.Scan.{hits}
-use borrow.Author.Rules.{rules}
 use Rattle.message.proofs.grants.hits.Goals as goal
 
 pub returns : goal.returns

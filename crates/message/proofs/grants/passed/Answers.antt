@@ -1,5 +1,4 @@
 use Rattle.message.proofs.Granting.{passed_other, passed_grant}
-use borrow.Author.Rules.{rules}
 use Rattle.message.proofs.grants.passed.Goals as goal
 
 pub returns-then-grants_sid : goal.returns-then-grants_sid

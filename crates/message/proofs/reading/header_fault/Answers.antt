@@ -1,5 +1,4 @@
 use Rattle.message.proofs.Ways.{header_ways}
-use borrow.Author.Rules.{rules}
 use Rattle.message.proofs.reading.header_fault.Goals as goal
 
 pub returns-then-bytes-lt16 : goal.returns-then-bytes-lt16

@@ -1,7 +1,6 @@
 use native.Mathlib.Omega.{arith}
 use mathlib.Core.Path.{sym}
 use Rattle.message.proofs.Accepted.{accepted, checked_whole, checked_fault}
-use borrow.Author.Rules.{rules}
 use Rattle.message.proofs.reading.read.Goals as goal
 
 pub fields_of-requires : goal.fields_of-requires

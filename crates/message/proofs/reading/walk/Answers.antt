@@ -1,7 +1,5 @@
 use borrow.Author.Rules.{rules}
-use mathlib.Core.Path.{◌≡◌, refl, ◌∙◌}
-use mathlib.Core.Bool.{false}
-use Prim.Native.Nat.{◌-◌, ◌≤◌}
+use mathlib.Core.Path.{refl, ◌∙◌}
 use Rattle.rules.specs.Rules.{walked, nothing_yet}
 use Rattle.message.specs.Lists.{listed}
 use Rattle.message.specs.Element.{element_in}

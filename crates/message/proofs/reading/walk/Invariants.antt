@@ -1,12 +1,9 @@
-use borrow.Author.Rules.{rules}
-use mathlib.Core.Path.{◌≡◌, refl, ◌∙◌}
+use mathlib.Core.Path.{◌≡◌}
 use mathlib.Core.Bool.{false}
 use Prim.Native.Nat.{◌-◌, ◌≤◌}
 use Rattle.rules.specs.Rules.{walked, nothing_yet}
 use Rattle.message.specs.Lists.{listed}
 use Rattle.message.specs.Element.{element_in}
-use Rattle.rules.proofs.Ways.{advanced_closed}
-use Rattle.message.proofs.Ways.{walk_begins, walk_end, walk_fault, walk_next}
 use Rattle.message.proofs.reading.walk.Given as goal
 
 abbrev pub invariant-loop-i : goal.invariant-loop-i

@@ -1,9 +1,5 @@
 use borrow.Author.Rules.{rules}
-use mathlib.Core.Path.{◌≡◌, refl}
-use Prim.Native.Nat.{◌-◌, ◌≤◌}
-use Rattle.rules.specs.Rules.{walked}
-use Rattle.message.specs.Lists.{listed}
-use Rattle.message.specs.Element.{element_in}
+use mathlib.Core.Path.{refl}
 use Rattle.message.proofs.Ways.{walk_end, rest_fault, rest_next}
 use Rattle.message.proofs.reading.walk_rest.Goals as goal
 

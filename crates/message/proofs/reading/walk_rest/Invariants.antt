@@ -1,10 +1,8 @@
-use borrow.Author.Rules.{rules}
-use mathlib.Core.Path.{◌≡◌, refl}
+use mathlib.Core.Path.{◌≡◌}
 use Prim.Native.Nat.{◌-◌, ◌≤◌}
 use Rattle.rules.specs.Rules.{walked}
 use Rattle.message.specs.Lists.{listed}
 use Rattle.message.specs.Element.{element_in}
-use Rattle.message.proofs.Ways.{walk_end, rest_fault, rest_next}
 use Rattle.message.proofs.reading.walk_rest.Given as goal
 
 abbrev pub invariant-loop-i : goal.invariant-loop-i

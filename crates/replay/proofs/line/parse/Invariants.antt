@@ -1,4 +1,4 @@
-use Rattle.std.proofs.Common.{◌-◌, ◌≤◌, length, rules}
+use Rattle.std.proofs.Common.{◌-◌, ◌≤◌, length}
 use Rattle.replay.proofs.line.parse.Given as goal
 
 abbrev pub invariant-loop-at : goal.invariant-loop-at

@@ -1,5 +1,4 @@
 use Rattle.report.proofs.Ways.{ways}
-use borrow.Author.Rules.{rules}
 use Rattle.report.proofs.bodies.body_by.Goals as goal
 
 pub returns-in-Accepted : goal.returns-in-Accepted

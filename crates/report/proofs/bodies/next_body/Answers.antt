@@ -1,5 +1,4 @@
 use Rattle.report.proofs.Ways.{ways}
-use borrow.Author.Rules.{rules}
 use Rattle.report.proofs.bodies.next_body.Goals as goal
 
 pub returns-then-left-lt16 : goal.returns-then-left-lt16

@@ -1,9 +1,7 @@
 use lib.ListN.{length-set}
 use borrow.Author.Rules.{rules}
-use mathlib.Core.Path.{◌≡◌, refl}
-use Prim.Native.Nat.{◌+◌, ◌-◌, ◌≤◌}
-use lib.ListN.{length}
-use lib.Seq.{paste, paste-zero}
+use mathlib.Core.Path.{refl}
+use lib.Seq.{paste-zero}
 use Rattle.report.proofs.Filling.{copied, copied_all}
 use Rattle.report.proofs.lines.put.Goals as goal
 

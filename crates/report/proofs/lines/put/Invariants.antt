@@ -1,10 +1,7 @@
-use lib.ListN.{length-set}
-use borrow.Author.Rules.{rules}
-use mathlib.Core.Path.{◌≡◌, refl}
+use mathlib.Core.Path.{◌≡◌}
 use Prim.Native.Nat.{◌+◌, ◌-◌, ◌≤◌}
 use lib.ListN.{length}
-use lib.Seq.{paste, paste-zero}
-use Rattle.report.proofs.Filling.{copied, copied_all}
+use lib.Seq.{paste}
 use Rattle.report.proofs.lines.put.Given as goal
 
 abbrev pub invariant-loop-i : goal.invariant-loop-i

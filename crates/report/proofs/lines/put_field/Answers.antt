@@ -1,5 +1,4 @@
 use Rattle.report.proofs.Putting.{field_room, field_done}
-use borrow.Author.Rules.{rules}
 use Rattle.report.proofs.lines.put_field.Goals as goal
 
 pub put-requires : goal.put-requires

@@ -1,9 +1,6 @@
 use Rattle.report.specs.Text.{fields_of}
-use lib.ListN.{length, take, drop}
-use mathlib.Core.List.{◌++◌}
-use Prim.Native.Nat.{◌+◌, ◌-◌, ◌≤◌}
 use borrow.Author.Rules.{rules}
-use Rattle.report.proofs.Filling.{Filling, fill_begins}
+use Rattle.report.proofs.Filling.{fill_begins}
 use Rattle.report.proofs.Putting.{fields_room, fields_next, fields_end}
 use Rattle.report.proofs.lines.put_fields.Goals as goal
 

@@ -1,5 +1,4 @@
 use Rattle.report.proofs.Putting.{word_room, numbers_room, newline_room, line_done}
-use borrow.Author.Rules.{rules}
 use Rattle.report.proofs.lines.put_line.Goals as goal
 
 pub put-named-requires : goal.put-named-requires

@@ -3,7 +3,6 @@ use mathlib.Core.Path.{ap, sym}
 use mathlib.Core.List.{[], ◌∷◌}
 use Rattle.report.specs.Text.{line_of}
 use Rattle.report.proofs.Putting.{same_room, same_done}
-use borrow.Author.Rules.{rules}
 use Rattle.report.proofs.lines.put_map.Goals as goal
 
 pub put_line-requires : goal.put_line-requires

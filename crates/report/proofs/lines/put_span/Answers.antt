@@ -1,7 +1,6 @@
 use mathlib.Core.Path.{ap, sym}
 use Rattle.report.specs.Text.{span_line}
 use Rattle.report.proofs.Putting.{same_room, same_done}
-use borrow.Author.Rules.{rules}
 use Rattle.report.proofs.lines.put_span.Goals as goal
 
 pub put_line-requires : goal.put_line-requires

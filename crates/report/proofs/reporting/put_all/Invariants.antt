@@ -1,7 +1,6 @@
 use lib.ListN.{length}
 use Prim.Native.Nat.{◌-◌, ◌≤◌}
-use borrow.Author.Rules.{rules}
-use Rattle.report.proofs.Running.{Going, going_begins, map_room, map_next, bad_room, bad_next, span_room, span_done}
+use Rattle.report.proofs.Running.{Going}
 use Rattle.report.proofs.reporting.put_all.Given as goal
 
 abbrev pub invariant-loop-at : goal.invariant-loop-at

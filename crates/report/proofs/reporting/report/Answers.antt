@@ -1,7 +1,6 @@
 use native.Mathlib.Omega.{arith}
 use Rattle.report.proofs.Sizes.{text_short}
 use Rattle.report.proofs.Running.{report_small, report_long, report_whole}
-use borrow.Author.Rules.{rules}
 use Rattle.report.proofs.reporting.report.Goals as goal
 
 pub returns-then-out-enough : goal.returns-then-out-enough

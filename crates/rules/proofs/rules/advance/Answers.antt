@@ -1,5 +1,4 @@
 use Rattle.rules.proofs.Ways.{ways}
-use borrow.Author.Rules.{rules}
 use Rattle.rules.proofs.rules.advance.Goals as goal
 
 pub returns-then-p : goal.returns-then-p

@@ -1,5 +1,4 @@
 use Rattle.rules.proofs.Ways.{ways}
-use borrow.Author.Rules.{rules}
 use Rattle.rules.proofs.rules.fault.Goals as goal
 
 pub returns-then-f-ne0 : goal.returns-then-f-ne0

@@ -1,5 +1,4 @@
 use Rattle.rules.proofs.Ways.{ways}
-use borrow.Author.Rules.{rules}
 use Rattle.rules.proofs.rules.sid_allowed.Goals as goal
 
 pub returns-then-iuc-eq1 : goal.returns-then-iuc-eq1

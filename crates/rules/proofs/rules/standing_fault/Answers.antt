@@ -1,5 +1,4 @@
 use Rattle.rules.proofs.Ways.{ways}
-use borrow.Author.Rules.{rules}
 use Rattle.rules.proofs.rules.standing_fault.Goals as goal
 
 pub returns-then-unknown_use : goal.returns-then-unknown_use

@@ -1,4 +1,3 @@
-use Rattle.std.proofs.Common.{rules}
 use Rattle.slots.proofs.span.both.Goals as goal
 
 pub returns : goal.returns

@@ -1,5 +1,4 @@
 use Rattle.slots.proofs.Spans.{ways}
-use Rattle.std.proofs.Common.{rules}
 use Rattle.slots.proofs.span.further.Goals as goal
 
 pub returns-then-ahead : goal.returns-then-ahead

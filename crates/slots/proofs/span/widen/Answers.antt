@@ -1,5 +1,4 @@
 use Rattle.slots.proofs.Spans.{ways}
-use Rattle.std.proofs.Common.{rules}
 use Rattle.slots.proofs.span.widen.Goals as goal
 
 pub returns-then-both : goal.returns-then-both

@@ -1,5 +1,4 @@
 use Rattle.slots.proofs.Spans.{ways}
-use Rattle.std.proofs.Common.{rules}
 use Rattle.slots.proofs.span.with_map.Goals as goal
 
 pub returns-in-Nothing : goal.returns-in-Nothing

@@ -1,5 +1,4 @@
 use Rattle.slots.specs.Span.{within}
-use Rattle.std.proofs.Common.{rules}
 use Rattle.slots.proofs.span.within.Goals as goal
 
 pub returns : goal.returns

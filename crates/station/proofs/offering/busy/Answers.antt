@@ -1,5 +1,4 @@
 use Rattle.station.proofs.Ways.{record_ways, busy_other}
-use borrow.Author.Rules.{rules}
 use Rattle.station.proofs.offering.busy.Goals as goal
 
 pub returns-in-Idle : goal.returns-in-Idle

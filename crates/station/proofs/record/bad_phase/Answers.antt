@@ -1,5 +1,4 @@
 use Rattle.station.proofs.Ways.{record_ways}
-use borrow.Author.Rules.{rules}
 use Rattle.station.proofs.record.bad_phase.Goals as goal
 
 pub returns-in-Idle : goal.returns-in-Idle

@@ -1,4 +1,3 @@
-use borrow.Author.Rules.{rules}
 use Rattle.station.proofs.record.bad_r.Goals as goal
 
 pub returns : goal.returns

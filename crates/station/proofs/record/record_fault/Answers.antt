@@ -1,5 +1,4 @@
 use Rattle.station.proofs.Ways.{record_ways}
-use borrow.Author.Rules.{rules}
 use Rattle.station.proofs.record.record_fault.Goals as goal
 
 pub returns-then-bad_sid : goal.returns-then-bad_sid

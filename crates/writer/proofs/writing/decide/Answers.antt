@@ -3,7 +3,6 @@ use Rattle.writer.proofs.Stores.{write_none, write_many, write_backoff, write_wa
 use mathlib.Core.Path.{sym, ◌∙◌}
 use Rattle.writer.specs.Writing.{given, elements_given}
 use lib.ListN.{length}
-use borrow.Author.Rules.{rules}
 use Rattle.writer.proofs.writing.decide.Goals as goal
 
 pub returns-then-n-eq0 : goal.returns-then-n-eq0

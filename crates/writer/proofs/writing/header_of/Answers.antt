@@ -1,6 +1,5 @@
 use mathlib.Core.Path.{refl}
 use Rattle.writer.specs.Writing.{header_of, bytes_of}
-use borrow.Author.Rules.{rules}
 use Rattle.writer.proofs.writing.header_of.Goals as goal
 
 pub returns : goal.returns

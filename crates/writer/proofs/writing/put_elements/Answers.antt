@@ -1,9 +1,9 @@
-use mathlib.Core.Path.{◌≡◌, refl, ap, ◌∙◌}
-use Rattle.writer.proofs.Stores.{laid, laid_none, laid_length, laid_more, laid_all}
+use mathlib.Core.Path.{refl, ap, ◌∙◌}
+use Rattle.writer.proofs.Stores.{laid_none, laid_length, laid_more, laid_all}
 use borrow.Author.Rules.{rules}
 use Rattle.writer.specs.Writing.{given}
 use lib.ListN.{length}
-use Prim.Native.Nat.{◌-◌, ◌≤◌, ◌+◌, ◌*◌}
+use Prim.Native.Nat.{◌+◌}
 use Rattle.writer.proofs.writing.put_elements.Goals as goal
 
 pub loop-i-init : goal.loop-i-init

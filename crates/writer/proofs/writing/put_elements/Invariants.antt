@@ -1,6 +1,5 @@
-use mathlib.Core.Path.{◌≡◌, refl, ap, ◌∙◌}
-use Rattle.writer.proofs.Stores.{laid, laid_none, laid_length, laid_more, laid_all}
-use borrow.Author.Rules.{rules}
+use mathlib.Core.Path.{◌≡◌}
+use Rattle.writer.proofs.Stores.{laid}
 use Rattle.writer.specs.Writing.{given}
 use lib.ListN.{length}
 use Prim.Native.Nat.{◌-◌, ◌≤◌, ◌+◌, ◌*◌}

@@ -2,7 +2,6 @@ use Rattle.writer.specs.Writing.{bytes_of}
 use Rattle.writer.proofs.Stores.{four_stores}
 use native.Mathlib.Omega.{arith}
 use lib.ListN.{length-set}
-use borrow.Author.Rules.{rules}
 use Rattle.writer.proofs.writing.put_word.Goals as goal
 
 pub bounds-out-at-2 : goal.bounds-out-at-2

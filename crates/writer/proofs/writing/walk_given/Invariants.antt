@@ -1,11 +1,8 @@
-use borrow.Author.Rules.{rules}
-use mathlib.Core.List.{[]}
 use Rattle.rules.specs.Rules.{walked, nothing_yet}
 use Rattle.message.specs.Lists.{listed}
 use Rattle.writer.specs.Writing.{given}
 use Prim.Native.Nat.{◌-◌, ◌≤◌}
-use mathlib.Core.Path.{◌≡◌, refl}
-use Rattle.message.proofs.Ways.{walk_begins, walk_end, walk_fault, walk_next}
+use mathlib.Core.Path.{◌≡◌}
 use Rattle.writer.proofs.writing.walk_given.Given as goal
 
 abbrev pub invariant-loop-i : goal.invariant-loop-i

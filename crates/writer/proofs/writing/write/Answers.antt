@@ -1,6 +1,5 @@
 use Rattle.writer.proofs.Stores.{write_done, write_refused}
-use Rattle.writer.specs.Writing.{given, elements_given}
-use borrow.Author.Rules.{rules}
+use Rattle.writer.specs.Writing.{elements_given}
 use Rattle.writer.proofs.writing.write.Goals as goal
 
 pub returns-in-Size : goal.returns-in-Size

@@ -1,5 +1,4 @@
 use Rattle.writer.proofs.Stores.{decided}
-use borrow.Author.Rules.{rules}
 use Rattle.writer.proofs.writing.written_by.Goals as goal
 
 pub returns-in-Whole : goal.returns-in-Whole

@@ -1,5 +1,4 @@
 use Rattle.headend.proofs.Checks.{ways}
-use borrow.Author.Rules.{rules}
 use Rattle.headend.proofs.record.Headend.new.Goals as goal
 
 pub returns-then-bad : goal.returns-then-bad

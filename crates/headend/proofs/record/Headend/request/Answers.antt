@@ -1,5 +1,4 @@
 use Rattle.headend.proofs.Checks.{request_refused, request_taken, few_held}
-use borrow.Author.Rules.{rules}
 use Rattle.headend.proofs.record.Headend.request.Goals as goal
 
 pub returns-then-number-ne0 : goal.returns-then-number-ne0

@@ -1,5 +1,4 @@
 use Rattle.rules.specs.Backoffs.{bad_backoffs}
-use borrow.Author.Rules.{rules}
 use Rattle.rules.proofs.fields.Fields.bad_backoffs.Goals as goal
 
 pub returns : goal.returns

@@ -1,5 +1,4 @@
 use Rattle.slots.proofs.Spans.{ways}
-use Rattle.std.proofs.Common.{rules}
 use Rattle.slots.proofs.span.Span.add.Goals as goal
 
 pub returns-then-length-le-LONGEST_MAP : goal.returns-then-length-le-LONGEST_MAP

@@ -1,4 +1,3 @@
-use Rattle.std.proofs.Common.{rules}
 use Rattle.slots.specs.Time.{earlier}
 use Rattle.slots.proofs.time.MiniSlot.earlier.Goals as goal
 

@@ -1,5 +1,4 @@
 use Rattle.station.proofs.Ways.{record_ways}
-use borrow.Author.Rules.{rules}
 use Rattle.station.proofs.record.Station.offer.Goals as goal
 
 pub returns-then-f-ne0 : goal.returns-then-f-ne0
