@@ -62,71 +62,84 @@ fn sized(answer: Issued, out: &mut [u8], used: &mut usize) {
     }
 }
 
+// Where the lines go, and whether each so far was told.
+#[derive(Drop)]
+struct Lines {
+    rt: HostRuntime,
+    told: bool,
+}
+
 // Once a line could not be told, no other is.
-fn tell(out: &mut [u8], used: &mut usize, told: &mut bool) {
+fn tell(out: &mut [u8], used: &mut usize, lines: &mut Lines) {
     stream::put(b"\n", out, used);
-    if *told {
-        *told = stream::tell_line(1, b"headrun: standard output", out, *used);
+    if lines.told {
+        lines.told = stream::tell_line(
+            &mut lines.rt.stdout(),
+            &mut lines.rt.stderr(),
+            b"headrun: standard output",
+            out,
+            *used,
+        );
     }
 }
 
-fn tell_request(sid: u32, size: u32, first: u32, answer: Taken, told: &mut bool) {
+fn tell_request(sid: u32, size: u32, first: u32, answer: Taken, lines: &mut Lines) {
     let mut out = [0u8; LONGEST_LINE];
     let mut used = 0;
     asked(b"request", sid, size, first, &mut out, &mut used);
     taken(answer, &mut out, &mut used);
-    tell(&mut out, &mut used, told);
+    tell(&mut out, &mut used, lines);
 }
 
-fn tell_issue(ack: u32, c: u32, budget: u32, answer: Issued, told: &mut bool) {
+fn tell_issue(ack: u32, c: u32, budget: u32, answer: Issued, lines: &mut Lines) {
     let mut out = [0u8; LONGEST_LINE];
     let mut used = 0;
     asked(b"issue", ack, c, budget, &mut out, &mut used);
     sized(answer, &mut out, &mut used);
-    tell(&mut out, &mut used, told);
+    tell(&mut out, &mut used, lines);
 }
 
-fn tell_bytes(bytes: &[u8], told: &mut bool) {
+fn tell_bytes(bytes: &[u8], lines: &mut Lines) {
     let mut out = [0u8; LONGEST_LINE];
     let mut used = 0;
     hex(bytes, &mut out, &mut used);
-    tell(&mut out, &mut used, told);
+    tell(&mut out, &mut used, lines);
 }
 
-fn tell_set_up(next: u32, answer: Taken, told: &mut bool) {
+fn tell_set_up(next: u32, answer: Taken, lines: &mut Lines) {
     let mut out = [0u8; LONGEST_LINE];
     let mut used = 0;
     stream::put(b"set up", &mut out, &mut used);
     number(next, &mut out, &mut used);
     taken(answer, &mut out, &mut used);
-    tell(&mut out, &mut used, told);
+    tell(&mut out, &mut used, lines);
 }
 
 // The headend after a request, and what it answered.
-fn request(h: Headend, sid: u32, size: u32, first: u32, told: &mut bool) -> Headend {
+fn request(h: Headend, sid: u32, size: u32, first: u32, lines: &mut Lines) -> Headend {
     let taking = h.request(sid, size, MiniSlot(first));
     let answer = taking.answer;
-    tell_request(sid, size, first, answer, told);
+    tell_request(sid, size, first, answer, lines);
     taking.headend
 }
 
 // .. and after an issue into the lent room, with the bytes that stand there then.
-fn issue(h: Headend, ack: u32, c: u32, budget: u32, room: &mut [u8], told: &mut bool) -> Headend {
+fn issue(h: Headend, ack: u32, c: u32, budget: u32, room: &mut [u8], lines: &mut Lines) -> Headend {
     let issuing = issuing::issue(h, MiniSlot(ack), c, budget, room);
     let answer = issuing.answer;
-    tell_issue(ack, c, budget, answer, told);
-    tell_bytes(room, told);
+    tell_issue(ack, c, budget, answer, lines);
+    tell_bytes(room, lines);
     issuing.headend
 }
 
-fn issue_24(h: Headend, ack: u32, c: u32, budget: u32, told: &mut bool) -> Headend {
+fn issue_24(h: Headend, ack: u32, c: u32, budget: u32, lines: &mut Lines) -> Headend {
     let mut room = [0xAAu8; 24];
-    issue(h, ack, c, budget, &mut room, told)
+    issue(h, ack, c, budget, &mut room, lines)
 }
 
-fn issue_28(h: Headend, ack: u32, c: u32, budget: u32, told: &mut bool) -> Headend {
+fn issue_28(h: Headend, ack: u32, c: u32, budget: u32, lines: &mut Lines) -> Headend {
     let mut room = [0xAAu8; 28];
-    issue(h, ack, c, budget, &mut room, told)
+    issue(h, ack, c, budget, &mut room, lines)
 }
 
 fn answer_of(why: Refusal) -> Taken {
@@ -136,7 +149,7 @@ fn answer_of(why: Refusal) -> Taken {
     Taken::Refused(why)
 }
 
-fn set_up(next: u32, most: u8, told: &mut bool) -> Headend {
+fn set_up(next: u32, most: u8, lines: &mut Lines) -> Headend {
     let ranging = Backoff { start: 0, end: 4 };
     let data = Backoff {
         start: 2,
@@ -144,7 +157,7 @@ fn set_up(next: u32, most: u8, told: &mut bool) -> Headend {
     };
     let made = Headend::new(MiniSlot(next), 1, 2, ranging, data, 16);
     let refusal = made.refusal;
-    tell_set_up(next, answer_of(refusal), told);
+    tell_set_up(next, answer_of(refusal), lines);
     made.headend
 }
 
@@ -160,62 +173,62 @@ fn filled(h: Headend) -> Headend {
     h
 }
 
-fn fresh(h: Headend, told: &mut bool) {
-    request(h, 5, 24, 959, told);
-    request(h, 5, 24, 960, told);
-    request(h, 5, 24, 961, told);
-    issue_24(h, 959, 10, 10, told);
-    issue_24(h, 961, 10, 10, told);
+fn fresh(h: Headend, lines: &mut Lines) {
+    request(h, 5, 24, 959, lines);
+    request(h, 5, 24, 960, lines);
+    request(h, 5, 24, 961, lines);
+    issue_24(h, 959, 10, 10, lines);
+    issue_24(h, 961, 10, 10, lines);
 }
 
 // The requests of a full table; once some are granted, their room is used again.
-fn full(h: Headend, told: &mut bool) {
+fn full(h: Headend, lines: &mut Lines) {
     let h = filled(h);
-    request(h, 65, 1, 975, told);
-    request(h, 5, 1, 975, told);
+    request(h, 65, 1, 975, lines);
+    request(h, 5, 1, 975, lines);
     let mut room = [0u8; 280];
     let issuing = issuing::issue(h, MiniSlot(980), 6, 30, &mut room);
     let answer = issuing.answer;
-    tell_issue(980, 6, 30, answer, told);
-    request(issuing.headend, 65, 1, 981, told);
+    tell_issue(980, 6, 30, answer, lines);
+    request(issuing.headend, 65, 1, 981, lines);
 }
 
 // The room is one byte short, and stays as it was.
-fn short_room(h: Headend, told: &mut bool) {
+fn short_room(h: Headend, lines: &mut Lines) {
     let mut room = [0xAAu8; 27];
-    issue(h, 980, 6, 30, &mut room, told);
+    issue(h, 980, 6, 30, &mut room, lines);
 }
 
-fn bad_plans(h: Headend, told: &mut bool) {
-    issue_28(h, 980, 6, 4097, told);
-    issue_28(h, 980, 0, 30, told);
-    issue_28(h, 980, 31, 30, told);
+fn bad_plans(h: Headend, lines: &mut Lines) {
+    issue_28(h, 980, 6, 4097, lines);
+    issue_28(h, 980, 0, 30, lines);
+    issue_28(h, 980, 31, 30, lines);
 }
 
 // Both counters roll over.
-fn rolled(h: Headend, told: &mut bool) {
-    let h = issue_24(h, 4294967290, 10, 10, told);
-    let h = request(h, 7, 3, 4294967295, told);
-    issue_28(h, 4, 6, 30, told);
+fn rolled(h: Headend, lines: &mut Lines) {
+    let h = issue_24(h, 4294967290, 10, 10, lines);
+    let h = request(h, 7, 3, 4294967295, lines);
+    issue_28(h, 4, 6, 30, lines);
 }
 
-fn run(told: &mut bool) {
-    let h = set_up(960, 6, told);
-    fresh(h, told);
-    let h = issue_24(h, 960, 10, 10, told);
-    let h = issue_24(h, 960, 30, 30, told);
-    full(h, told);
-    let h = request(h, 5, 24, 975, told);
-    request(h, 5, 24, 976, told);
-    short_room(h, told);
-    bad_plans(h, told);
-    issue_28(h, 980, 6, 30, told);
-    issue_28(h, 980, 6, 29, told);
-    rolled(set_up(4294967290, 6, told), told);
-    set_up(960, 1, told);
+fn run(lines: &mut Lines) {
+    let h = set_up(960, 6, lines);
+    fresh(h, lines);
+    let h = issue_24(h, 960, 10, 10, lines);
+    let h = issue_24(h, 960, 30, 30, lines);
+    full(h, lines);
+    let h = request(h, 5, 24, 975, lines);
+    request(h, 5, 24, 976, lines);
+    short_room(h, lines);
+    bad_plans(h, lines);
+    issue_28(h, 980, 6, 30, lines);
+    issue_28(h, 980, 6, 29, lines);
+    rolled(set_up(4294967290, 6, lines), lines);
+    set_up(960, 1, lines);
 }
 
-fn main() {
-    let mut told = true;
-    run(&mut told);
+fn main(rt: HostRuntime) {
+    let mut lines = Lines { rt, told: true };
+    run(&mut lines);
 }
