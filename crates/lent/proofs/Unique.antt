@@ -1,5 +1,5 @@
 -- Document 01, "What has to be promised": for each input a contract leaves one possible result and one possible content of everything lent.
--- The functions are walked by hand, and no reading is made of their contracts. Each promises one predicate of what stood there before, what stands there after and the answer: it leaves one content and one answer; and the contract says that predicate and nothing else.
+-- Each function promises one predicate of what stood there before, what stands there after and the answer: it leaves one content and one answer; and the contract says that predicate and nothing else.
 use mathlib.Core.Path.{◌≡◌, refl, sym, ◌∙◌}
 use seplogic.Ra.Ura.{Ura}
 use base.Logic.{SProp}

@@ -1,5 +1,5 @@
-// A message written into lent bytes. The elements come as three slices of numbers: a slice of
-// structs would leave each function over it to a walk by hand, and a list by value would be copied.
+// A message written into lent bytes. The elements come as three slices of numbers (docs/DECISIONS.md):
+// a list by value would be copied.
 ghost use Rattle.std.specs.Prelude.{◌≡◌, ◌++◌, ◌+◌, ◌*◌, ◌≤◌, length, take, drop, get_or};
 ghost use Rattle.message.specs.Lists.{listed};
 ghost use Rattle.rules.specs.Rules.{walked, nothing_yet};
