@@ -1,9 +1,17 @@
 -- For each text, each number and each content of the lent bytes and of `used` a contract leaves one content of both.
-use mathlib.Core.Path.{◌≡◌, sym, ◌∙◌}
+use Rattle.std.specs.Prelude.{Option, None, Some}
+use Rattle.std.specs.Io.KnownBytes.{Appends, Consumes}
+use mathlib.Core.Path.{◌≡◌, sym, ◌∙◌, ap}
+use mathlib.Core.List.{List}
+use Prim.Native.Nat.{ℕ}
+use lib.ListN.{take, drop}
+use lib.Seq.{take_at, drop_at}
 use contract.Lifetimes
 use borrow.Fn.World
 use borrow.Fn.Kinds as Kinds'
 use denote.Triple.Clauses
+use Rattle.stream.specs.declared.reading.Input.TheVariants.{Bytes}
+use Rattle.stream.specs.Reading.{Inside}
 use Rattle.stream.specs.contracts.text.put as put'
 use Rattle.stream.proofs.text.put.Reads as put
 use Rattle.stream.proofs.text.put.Kinds as put_kinds
@@ -22,3 +30,21 @@ put_decimal_unique κs a r r' s s' p q = (p.0 ∙ sym q.0, p.1 ∙ sym q.1)
 
 pub put_hex_unique : (κs : Lifetimes.Lfts 2) (a : World.ArgsD put-hex'.signature κs) (r r' : World.ResD put-hex'.signature κs) (s s' : Clauses.AtExit (Kinds'.ended_of 2 put_hex_kinds.ps put_hex_kinds.r) κs) → put-hex.Post κs a r s → put-hex.Post κs a r' s' → (s.1.0.now ≡ s'.1.0.now) × (s.1.1.0.now ≡ s'.1.1.0.now)
 put_hex_unique κs a r r' s s' p q = (p.0 ∙ sym q.0, p.1 ∙ sym q.1)
+
+-- That a read or a write fails, and how many bytes one read brings, no contract can say. The rest has one answer. Of the same known bytes, as
+-- many bytes are the same ones, and leave the same ones.
+pub came_alike : (s : List ℕ) (n : ℕ) (left left' : Option (List ℕ)) (xs xs' : List ℕ) → Inside (Bytes n) xs → Inside (Bytes n) xs' → Consumes (Some s) left (take n xs) → Consumes (Some s) left' (take n xs') → (take n xs ≡ take n xs') × (left ≡ left')
+came_alike s n None left' xs xs' h k p q = absurd p
+came_alike s n (Some l) None xs xs' h k p q = absurd q
+came_alike s n (Some l) (Some l') xs xs' h k p q =
+    let front : take n s ≡ take n xs = ap (λ (z : List ℕ). take n z) p ∙ take_at (take n xs) l n (sym h.1) in
+    let front' : take n s ≡ take n xs' = ap (λ (z : List ℕ). take n z) q ∙ take_at (take n xs') l' n (sym k.1) in
+    let rest : drop n s ≡ l = ap (λ (z : List ℕ). drop n z) p ∙ drop_at (take n xs) l n (sym h.1) in
+    let rest' : drop n s ≡ l' = ap (λ (z : List ℕ). drop n z) q ∙ drop_at (take n xs') l' n (sym k.1) in
+    (sym front ∙ front', ap (λ (z : List ℕ). Some z) (sym rest ∙ rest'))
+
+-- .. and a text told leaves one content of a writer whose content is known
+pub told_alike : (s text : List ℕ) (now now' : Option (List ℕ)) → Appends (Some s) now text → Appends (Some s) now' text → now ≡ now'
+told_alike s text None now' p q = absurd p
+told_alike s text (Some w) None p q = absurd q
+told_alike s text (Some w) (Some w') p q = ap (λ (z : List ℕ). Some z) (p ∙ sym q)

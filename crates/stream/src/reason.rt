@@ -1,10 +1,11 @@
-// Why a read or a write failed, in the C library's words alone: the library's own Display puts the number behind them.
+// Why a read or a write failed, in the C library's words alone: std's Display puts the number behind
+// them.
 use crate::text::put;
 use std::fmt;
 use std::fmt::Write;
 use std::io::Error;
 
-// The library's longest text is 256 bytes, and what stands behind it at most 24.
+// The longest text of the C library is 256 bytes, and what stands behind it at most 24.
 const ROOM: usize = 320;
 
 #[derive(Drop)]

@@ -42,6 +42,7 @@ pub fn tell_line<W: Write, E: Write>(
     used: usize,
 ) -> bool
     ensures no_room { length line.now < used → result ≡ false }
+    ensures untold { length line.now < used → to.new ≡ to.old }
     ensures bytes { result ≡ true → Appends (W.contents to.old) (W.contents to.new) (take used line.now) }
     ensures quiet { result ≡ true → errors.new ≡ errors.old }
 {
