@@ -3,6 +3,8 @@ use mathlib.Core.Path.{sym, ◌∙◌}
 use Rattle.slots.proofs.Unique.{One}
 use Rattle.rules.proofs.fields.Backoff.bad.Reads as bad
 use Rattle.rules.proofs.fields.Fields.bad_backoffs.Reads as bad-backoffs
+use Rattle.rules.proofs.refusal.Reason.number.Reads as number
+use Rattle.rules.proofs.refusal.RefusalFromReason.from.Reads as from
 use Rattle.rules.proofs.rules.within.Reads as within
 use Rattle.rules.proofs.rules.granting.Reads as granting
 use Rattle.rules.proofs.rules.sid_allowed.Reads as sid-allowed
@@ -17,6 +19,12 @@ bad_unique κs a r r' s s' p q = p ∙ sym q
 
 pub bad_backoffs_unique : One bad-backoffs.Post
 bad_backoffs_unique κs a r r' s s' p q = p ∙ sym q
+
+pub number_unique : One number.Post
+number_unique κs a r r' s s' p q = p ∙ sym q
+
+pub from_unique : One from.Post
+from_unique κs a r r' s s' p q = p ∙ sym q
 
 pub within_unique : One within.Post
 within_unique κs a r r' s s' p q = p ∙ sym q

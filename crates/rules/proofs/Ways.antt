@@ -1,14 +1,17 @@
 -- The ways through the functions of the rules: one law each, about the definitions only.
 use mathlib.Core.Path.{◌≡◌, refl}
 use mathlib.Core.Bool.{Bool, true, false, cond, not, ◌&&◌, ◌||◌}
-use Prim.Native.Nat.{ℕ, zero, suc}
+use Prim.Native.Nat.{ℕ}
 use native.Mathlib.Omega.{arith}
 use lib.Dec.{leb, eqb}
 use borrow.Author.Tests.{ne_eqb, not-true}
 pub use Rattle.slots.proofs.Spans.{said, said_not}
 use Rattle.rules.specs.declared.element.Element.{Element}
 use Rattle.rules.specs.declared.rules.Progress.{Progress}
-use Rattle.rules.specs.declared.rules.Walked.TheVariants.{Whole, Fault}
+use Rattle.std.specs.Prelude.{Result, Ok, Err}
+use Rattle.rules.specs.declared.refusal.Reason.{Reason}
+use Rattle.rules.specs.declared.refusal.Reason.TheVariants.{Use, Null, Sid, Place, Span, Grant}
+use Rattle.rules.specs.Refusals.{then}
 use Rattle.rules.specs.Sids.{within, sid_allowed}
 use Rattle.rules.specs.Rules.{granting, unknown_use, misordered, wrong_sid, misplaced, too_far, grant_too_long, standing_fault, fault_of, advanced, ended_at}
 
@@ -54,63 +57,63 @@ module _ (p : Progress) (e : Element) where
   unfolding misplaced
   placed_before h k = rw (h, k) refl
 
-  pub standing_5 : unknown_use e ≡ true → 5 ≡ standing_fault p e
+  pub standing_5 : unknown_use e ≡ true → Err Use ≡ standing_fault p e
   unfolding standing_fault
   standing_5 a = simp a
 
-  pub standing_10 : unknown_use e ≡ false → misordered p e ≡ true → 10 ≡ standing_fault p e
+  pub standing_10 : unknown_use e ≡ false → misordered p e ≡ true → Err Null ≡ standing_fault p e
   unfolding standing_fault
   standing_10 a b = simp (a, b)
 
   module _ (a : unknown_use e ≡ false) (b : misordered p e ≡ false) where
-    pub standing_6 : wrong_sid e ≡ true → 6 ≡ standing_fault p e
+    pub standing_6 : wrong_sid e ≡ true → Err Sid ≡ standing_fault p e
     unfolding standing_fault
     standing_6 c = simp (a, b, c)
 
-    pub standing_7 : wrong_sid e ≡ false → misplaced p e ≡ true → 7 ≡ standing_fault p e
+    pub standing_7 : wrong_sid e ≡ false → misplaced p e ≡ true → Err Place ≡ standing_fault p e
     unfolding standing_fault
     standing_7 c d = simp (a, b, c, d)
 
-    pub standing_none : wrong_sid e ≡ false → misplaced p e ≡ false → 0 ≡ standing_fault p e
+    pub standing_none : wrong_sid e ≡ false → misplaced p e ≡ false → Ok tt ≡ standing_fault p e
     unfolding standing_fault
     standing_none c d = simp (a, b, c, d)
 
   -- what follows 5, 10, 6, 7 in the paper's order
-  pub fault_after : fault_of p e ≡ cond (eqb (standing_fault p e) 0) (cond (too_far p e) 8 (cond (grant_too_long p e) 9 0)) (standing_fault p e)
+  pub fault_after : fault_of p e ≡ then (standing_fault p e) (cond (too_far p e) (Err Span) (cond (grant_too_long p e) (Err Grant) (Ok tt)))
   unfolding fault_of standing_fault
-  fault_after = go (unknown_use e) (misordered p e) (wrong_sid e) (misplaced p e) (cond (too_far p e) 8 (cond (grant_too_long p e) 9 0))
+  fault_after = go (unknown_use e) (misordered p e) (wrong_sid e) (misplaced p e) (cond (too_far p e) (Err Span) (cond (grant_too_long p e) (Err Grant) (Ok tt)))
     where
-      go : (a b c d : Bool) (x : ℕ) → cond a 5 (cond b 10 (cond c 6 (cond d 7 x))) ≡ cond (eqb (cond a 5 (cond b 10 (cond c 6 (cond d 7 0)))) 0) x (cond a 5 (cond b 10 (cond c 6 (cond d 7 0))))
+      go : (a b c d : Bool) (x : Result Unit Reason) → cond a (Err Use) (cond b (Err Null) (cond c (Err Sid) (cond d (Err Place) x))) ≡ then (cond a (Err Use) (cond b (Err Null) (cond c (Err Sid) (cond d (Err Place) (Ok tt))))) x
       go true b c d x = refl
       go false true c d x = refl
       go false false true d x = refl
       go false false false true x = refl
       go false false false false x = refl
 
-  module _ (f : ℕ) (is : f ≡ standing_fault p e) where
-    pub fault_standing : (f ≡ 0 → ⊥) → f ≡ fault_of p e
-    fault_standing h = rw (fault_after, ← is, ne_eqb f 0 h) refl
+  module _ (f : Result Unit Reason) (is : f ≡ standing_fault p e) where
+    pub fault_standing : (why : Reason) → f ≡ Err why → Err why ≡ fault_of p e
+    fault_standing why h = rw (fault_after, ← is, h) refl
 
-    module _ (h : f ≡ 0) where
-      pub fault_8 : too_far p e ≡ true → 8 ≡ fault_of p e
+    module _ (u : Unit) (h : f ≡ Ok u) where
+      pub fault_8 : too_far p e ≡ true → Err Span ≡ fault_of p e
       fault_8 a = rw (fault_after, ← is, h, a) refl
 
-      pub fault_9 : too_far p e ≡ false → grant_too_long p e ≡ true → 9 ≡ fault_of p e
+      pub fault_9 : too_far p e ≡ false → grant_too_long p e ≡ true → Err Grant ≡ fault_of p e
       fault_9 a b = rw (fault_after, ← is, h, a, b) refl
 
-      pub fault_none : too_far p e ≡ false → grant_too_long p e ≡ false → 0 ≡ fault_of p e
+      pub fault_none : too_far p e ≡ false → grant_too_long p e ≡ false → Ok tt ≡ fault_of p e
       fault_none a b = rw (fault_after, ← is, h, a, b) refl
 
     -- after the Null there is no other fault
     pub fault_closed : p.closed ≡ true → p.granting ≡ false → f ≡ fault_of p e
     fault_closed c g = rw (fault_after, ← is, c, g) (go f)
       where
-        go : (n : ℕ) → n ≡ cond (eqb n 0) 0 n
-        go zero = refl
-        go (suc n) = rw (ne_eqb (suc n) 0 (λ z. absurd (omega arith))) refl
+        go : (n : Result Unit Reason) → n ≡ then n (Ok tt)
+        go (Ok tt) = refl
+        go (Err why) = refl
 
-  pub no_fault : unknown_use e ≡ false → misordered p e ≡ false → wrong_sid e ≡ false → misplaced p e ≡ false → too_far p e ≡ false → grant_too_long p e ≡ false → 0 ≡ fault_of p e
-  no_fault a b c d = fault_none 0 (standing_none a b c d) refl
+  pub no_fault : unknown_use e ≡ false → misordered p e ≡ false → wrong_sid e ≡ false → misplaced p e ≡ false → too_far p e ≡ false → grant_too_long p e ≡ false → Ok tt ≡ fault_of p e
+  no_fault a b c d = fault_none (Ok tt) (standing_none a b c d) tt refl
 
   module _ (i : ℕ) where
     pub advanced_after : p.closed ≡ true → p ≡ advanced p e i
@@ -137,11 +140,11 @@ module _ (p : Progress) (e : Element) where
     advanced_before g h k f = rw (h, ne_eqb e.iuc 7 k, f) refl
 
 module _ (n : ℕ) (p : Progress) where
-  pub ended_whole : p.closed ≡ true → Whole p.null p.offset ≡ ended_at n p
+  pub ended_whole : p.closed ≡ true → Ok (record { null = p.null; length = p.offset }) ≡ ended_at n p
   unfolding ended_at
   ended_whole h = rw h refl
 
-  pub ended_open : p.closed ≡ false → Fault (record { number = 10; element = n }) ≡ ended_at n p
+  pub ended_open : p.closed ≡ false → Err (record { reason = Null; element = n }) ≡ ended_at n p
   unfolding ended_at
   ended_open h = rw h refl
 

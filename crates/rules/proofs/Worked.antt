@@ -5,23 +5,25 @@ use mathlib.Core.List.{List, [], ◌∷◌}
 use Prim.Native.Nat.{ℕ}
 use lib.Dec.{eqb}
 use Rattle.rules.specs.declared.element.Element.{Element}
-use Rattle.rules.specs.declared.rules.Walked.{Walked}
-use Rattle.rules.specs.declared.rules.Walked.TheVariants.{Whole, Fault}
+use Rattle.std.specs.Prelude.{Result, Ok, Err}
+use Rattle.rules.specs.declared.rules.Whole.{Whole}
+use Rattle.rules.specs.declared.refusal.Refusal.{Refusal}
+use Rattle.rules.specs.Refusals.{number_of}
 use Rattle.rules.specs.Sids.{sid_allowed}
 use Rattle.rules.specs.Rules.{misordered, misplaced, fault_of, nothing_yet, advanced, ended_at, walked}
 
 abbrev pub element : ℕ → ℕ → ℕ → Element
 element sid iuc offset = record { sid = sid; iuc = iuc; offset = offset }
 
-abbrev pub whole : ℕ → ℕ → Walked → Bool
-whole null length (Whole k l) = eqb null k && eqb length l
-whole null length (Fault why) = false
+abbrev pub whole : ℕ → ℕ → Result Whole Refusal → Bool
+whole null length (Ok w) = eqb null w.null && eqb length w.length
+whole null length (Err why) = false
 
-abbrev pub fault_at : ℕ → ℕ → Walked → Bool
-fault_at number place (Whole k l) = false
-fault_at number place (Fault why) = eqb number why.number && eqb place why.element
+abbrev pub fault_at : ℕ → ℕ → Result Whole Refusal → Bool
+fault_at number place (Ok w) = false
+fault_at number place (Err why) = eqb number (number_of why.reason) && eqb place why.element
 
-abbrev pub walk : List Element → Walked
+abbrev pub walk : List Element → Result Whole Refusal
 walk es = walked 0 nothing_yet es
 
 abbrev pub request : Element

@@ -1,34 +1,10 @@
 -- Document 01, "Refusal numbers": every refusal by its name, and its number.
-use Rattle.std.specs.Prelude.{ℕ}
+use Rattle.std.specs.Prelude.{ℕ, Result, Ok, Err}
+use Rattle.rules.specs.declared.refusal.Reason.{Reason}
+use Rattle.rules.specs.declared.refusal.Reason.TheVariants.{Short, Count, Length, Backoff, Use, Null, Sid, Place, Span, Grant, Room, Channel, Description, Stale, Late, Busy, Size, Passed, Unannounced, Held, Full, Ack, Plan, Selfcheck}
 use Rattle.rules.specs.declared.refusal.Refusal.{Refusal}
 
-pub data Name : Type 0 where
-  Short : Name
-  Count : Name
-  Length : Name
-  Backoff : Name
-  Use : Name
-  Null : Name
-  Sid : Name
-  Place : Name
-  Span : Name
-  Grant : Name
-  Room : Name
-  Channel : Name
-  Description : Name
-  Stale : Name
-  Late : Name
-  Busy : Name
-  Size : Name
-  Passed : Name
-  Unannounced : Name
-  Held : Name
-  Full : Name
-  Ack : Name
-  Plan : Name
-  Selfcheck : Name
-
-abbrev pub number_of : Name → ℕ
+abbrev pub number_of : Reason → ℕ
 number_of Short = 1
 number_of Count = 2
 number_of Length = 3
@@ -55,5 +31,16 @@ number_of Plan = 23
 number_of Selfcheck = 24
 
 -- "The answer names the element"
-abbrev pub refusal : ℕ → ℕ → Refusal
-refusal number element = record { number = number; element = element }
+abbrev pub refusal : Reason → ℕ → Refusal
+refusal reason element = record { reason = reason; element = element }
+
+-- checks one after the other: the refusal of the first, or else what follows
+module _ {A : Type 0} where
+  abbrev pub unless : Result Unit Reason → ℕ → Result A Refusal → Result A Refusal
+  unless (Ok u) element rest = rest
+  unless (Err reason) element rest = Err (refusal reason element)
+
+-- .. or else the second
+abbrev pub then : Result Unit Reason → Result Unit Reason → Result Unit Reason
+then (Ok u) second = second
+then (Err reason) second = Err reason

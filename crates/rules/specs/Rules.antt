@@ -1,11 +1,13 @@
 -- Document 01, "The message" and "Refusal numbers": the rules of the elements, in the order 5, 10, 6, 7, 8, 9.
-use Rattle.std.specs.Prelude.{ℕ, ◌+◌, Bool, true, false, cond, not, ◌&&◌, ◌||◌, List, [], ◌∷◌, leb, ltb, eqb}
+use Rattle.std.specs.Prelude.{ℕ, ◌+◌, Bool, true, false, cond, not, ◌&&◌, ◌||◌, List, [], ◌∷◌, leb, ltb, eqb, Result, Ok, Err}
 use Rattle.rules.specs.declared.element.Element.{Element}
 use Rattle.rules.specs.declared.rules.Progress.{Progress}
-use Rattle.rules.specs.declared.rules.Walked.{Walked}
-use Rattle.rules.specs.declared.rules.Walked.TheVariants.{Whole, Fault}
+use Rattle.rules.specs.declared.rules.Whole.{Whole}
+use Rattle.rules.specs.declared.refusal.Reason.{Reason}
+use Rattle.rules.specs.declared.refusal.Reason.TheVariants.{Use, Null, Sid, Place, Span, Grant}
+use Rattle.rules.specs.declared.refusal.Refusal.{Refusal}
 use Rattle.rules.specs.Sids.{within, sid_allowed}
-use Rattle.rules.specs.Refusals.{Use, Null, Sid, Place, Span, Grant, number_of, refusal}
+use Rattle.rules.specs.Refusals.{refusal, unless}
 
 -- "A grant (use 5 or 6)"
 abbrev pub granting : ℕ → Bool
@@ -35,23 +37,23 @@ too_far p e = not p.closed && ltb 4096 e.offset
 abbrev pub grant_too_long : Progress → Element → Bool
 grant_too_long p e = p.granting && ltb (p.offset + 255) e.offset
 
--- the number of the first of 5, 10, 6, 7 that an element breaks, which it can wherever it stands; 0 where it breaks none of these
-unfoldable pub standing_fault : Progress → Element → ℕ
+-- the first of 5, 10, 6, 7 that an element breaks, which it can wherever it stands
+unfoldable pub standing_fault : Progress → Element → Result Unit Reason
 standing_fault p e =
-    cond (unknown_use e) (number_of Use)
-    (cond (misordered p e) (number_of Null)
-    (cond (wrong_sid e) (number_of Sid)
-    (cond (misplaced p e) (number_of Place) 0)))
+    cond (unknown_use e) (Err Use)
+    (cond (misordered p e) (Err Null)
+    (cond (wrong_sid e) (Err Sid)
+    (cond (misplaced p e) (Err Place) (Ok tt))))
 
--- the number of the first rule that an element breaks; 0 where it breaks none
-unfoldable pub fault_of : Progress → Element → ℕ
+-- the first rule that an element breaks
+unfoldable pub fault_of : Progress → Element → Result Unit Reason
 fault_of p e =
-    cond (unknown_use e) (number_of Use)
-    (cond (misordered p e) (number_of Null)
-    (cond (wrong_sid e) (number_of Sid)
-    (cond (misplaced p e) (number_of Place)
-    (cond (too_far p e) (number_of Span)
-    (cond (grant_too_long p e) (number_of Grant) 0)))))
+    cond (unknown_use e) (Err Use)
+    (cond (misordered p e) (Err Null)
+    (cond (wrong_sid e) (Err Sid)
+    (cond (misplaced p e) (Err Place)
+    (cond (too_far p e) (Err Span)
+    (cond (grant_too_long p e) (Err Grant) (Ok tt))))))
 
 abbrev pub nothing_yet : Progress
 nothing_yet = record { first = true; closed = false; null = 0; offset = 0; granting = false }
@@ -64,12 +66,12 @@ advanced p e i =
     (record { first = false; closed = false; null = 0; offset = e.offset; granting = granting e.iuc }))
 
 -- "a missing Null last", with "n if the Null is missing"
-unfoldable pub ended_at : ℕ → Progress → Walked
-ended_at n p = cond p.closed (Whole p.null p.offset) (Fault (refusal (number_of Null) n))
+unfoldable pub ended_at : ℕ → Progress → Result Whole Refusal
+ended_at n p = cond p.closed (Ok (record { null = p.null; length = p.offset })) (Err (refusal Null n))
 
 -- "element by element": these are the elements from number i on
-unfoldable pub walked : ℕ → Progress → List Element → Walked
+unfoldable pub walked : ℕ → Progress → List Element → Result Whole Refusal
 walked i p [] = ended_at i p
 walked i p (e ∷ es) =
     let rest = walked (i + 1) (advanced p e i) es in
-    cond (eqb (fault_of p e) 0) rest (Fault (refusal (fault_of p e) i))
+    unless (fault_of p e) i rest

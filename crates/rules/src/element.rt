@@ -1,5 +1,5 @@
 // An information element: a SID, a use (IUC) and an offset.
-#[derive(Clone, Copy)]
+#[derive(Clone, Copy, PartialEq, Eq)]
 pub struct Element {
     pub sid: u32,
     pub iuc: u32,

@@ -6,13 +6,13 @@ ghost use Rattle.rules.specs.Backoffs.{bad_backoff, bad_backoffs};
 use slots::MiniSlot;
 
 // The exponents of a backoff window, at first and at most.
-#[derive(Clone, Copy)]
+#[derive(Clone, Copy, PartialEq, Eq)]
 pub struct Backoff {
     pub start: u8,
     pub end: u8,
 }
 
-#[derive(Clone, Copy)]
+#[derive(Clone, Copy, PartialEq, Eq)]
 pub struct Fields {
     pub channel: u8,
     pub count: u8,
@@ -37,8 +37,6 @@ impl Fields {
     pub fn bad_backoffs(self) -> bool
         ensures { result ≡ bad_backoffs self }
     {
-        let ranging = self.ranging;
-        let data = self.data;
-        ranging.bad() | data.bad()
+        self.ranging.bad() | self.data.bad()
     }
 }

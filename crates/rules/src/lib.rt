@@ -8,8 +8,8 @@ pub mod rules;
 
 pub use element::Element;
 pub use fields::{Backoff, Fields};
-pub use refusal::Refusal;
+pub use refusal::{Reason, Refusal};
 pub use rules::{
-    Progress, Walked, advance, ended, fault, granting, nothing_yet, sid_allowed, standing_fault,
+    Progress, Whole, advance, ended, fault, granting, nothing_yet, sid_allowed, standing_fault,
     within,
 };

@@ -1,57 +1,55 @@
-// Why a call is refused: the number of document 01's table, and the element at fault. From
-// Room on the element is 0.
-#[derive(Clone, Copy)]
+// Why a call is refused, by the name and the number of document 01's table, and the element at fault.
+ghost use Rattle.std.specs.Prelude.{◌≡◌};
+ghost use Rattle.rules.specs.Refusals.{number_of, refusal};
+
+#[derive(Clone, Copy, PartialEq, Eq)]
+pub enum Reason {
+    Short = 1,
+    Count = 2,
+    Length = 3,
+    Backoff = 4,
+    Use = 5,
+    Sid = 6,
+    Place = 7,
+    Span = 8,
+    Grant = 9,
+    Null = 10,
+    Room = 11,
+    Channel = 12,
+    Description = 13,
+    Stale = 14,
+    Late = 15,
+    Busy = 16,
+    Size = 17,
+    Held = 18,
+    Full = 19,
+    Passed = 20,
+    Unannounced = 21,
+    Ack = 22,
+    Plan = 23,
+    Selfcheck = 24,
+}
+
+// From Room on the element is 0.
+#[derive(Clone, Copy, PartialEq, Eq)]
 pub struct Refusal {
-    pub number: u32,
+    pub reason: Reason,
     pub element: u32,
 }
 
-impl Refusal {
-    pub const SHORT: u32 = 1;
+impl Reason {
+    pub fn number(self) -> u32
+        ensures { result ≡ number_of self }
+    {
+        self as u32
+    }
+}
 
-    pub const COUNT: u32 = 2;
+// A refusal that names no element.
+impl From<Reason> for Refusal {
+    ghost from_gives = { λ reason r. r ≡ refusal reason 0 };
 
-    pub const LENGTH: u32 = 3;
-
-    pub const BACKOFF: u32 = 4;
-
-    pub const USE: u32 = 5;
-
-    pub const SID: u32 = 6;
-
-    pub const PLACE: u32 = 7;
-
-    pub const SPAN: u32 = 8;
-
-    pub const GRANT: u32 = 9;
-
-    pub const NULL: u32 = 10;
-
-    pub const ROOM: u32 = 11;
-
-    pub const CHANNEL: u32 = 12;
-
-    pub const DESCRIPTION: u32 = 13;
-
-    pub const STALE: u32 = 14;
-
-    pub const LATE: u32 = 15;
-
-    pub const BUSY: u32 = 16;
-
-    pub const SIZE: u32 = 17;
-
-    pub const HELD: u32 = 18;
-
-    pub const FULL: u32 = 19;
-
-    pub const PASSED: u32 = 20;
-
-    pub const UNANNOUNCED: u32 = 21;
-
-    pub const ACK: u32 = 22;
-
-    pub const PLAN: u32 = 23;
-
-    pub const SELFCHECK: u32 = 24;
+    fn from(reason: Reason) -> Refusal {
+        Refusal { reason, element: 0 }
+    }
 }

@@ -4,11 +4,12 @@ ghost use Rattle.rules.specs.Sids.{within, sid_allowed};
 ghost use Rattle.rules.specs.Rules.{granting, unknown_use, misordered, wrong_sid, misplaced, too_far, grant_too_long, standing_fault, fault_of, nothing_yet, advanced, ended_at};
 
 use crate::element::Element;
-use crate::refusal::Refusal;
+use crate::refusal::{Reason, Refusal};
 
 // What the elements passed so far tell of the next one. Once the Null has closed the intervals,
-// `offset` stays the map length.
-#[derive(Clone, Copy)]
+// `offset` stays the map length. Flags, and not an enum of the two states: `fault`, `advance` and
+// `ended` answer on every mix of them.
+#[derive(Clone, Copy, PartialEq, Eq)]
 pub struct Progress {
     pub first: bool,
     pub closed: bool,
@@ -17,11 +18,11 @@ pub struct Progress {
     pub granting: bool,
 }
 
-// What all elements together are.
-#[derive(Clone, Copy)]
-pub enum Walked {
-    Whole { null: u32, length: u32 },
-    Fault(Refusal),
+// What the elements of a MAP come to: where the Null stands, and the map length.
+#[derive(Clone, Copy, PartialEq, Eq)]
+pub struct Whole {
+    pub null: u32,
+    pub length: u32,
 }
 
 pub fn within(low: u32, high: u32, x: u32) -> bool
@@ -100,40 +101,37 @@ fn grant_too_long(p: Progress, e: Element) -> bool
     p.granting & ((p.offset as u64) + Element::LONGEST_GRANT < (e.offset as u64))
 }
 
-// The first of 5, 10, 6, 7 that an element breaks, or 0. After the Null no other can be broken.
-pub fn standing_fault(p: Progress, e: Element) -> u32
+// The first of 5, 10, 6, 7 that an element breaks. After the Null no other can be broken.
+pub fn standing_fault(p: Progress, e: Element) -> Result<(), Reason>
     ensures { result ≡ standing_fault p e }
 {
     if unknown_use(e) {
-        return Refusal::USE;
+        return Err(Reason::Use);
     }
     if misordered(p, e) {
-        return Refusal::NULL;
+        return Err(Reason::Null);
     }
     if wrong_sid(e) {
-        return Refusal::SID;
+        return Err(Reason::Sid);
     }
     if misplaced(p, e) {
-        return Refusal::PLACE;
+        return Err(Reason::Place);
     }
-    0
+    Ok(())
 }
 
-// The first rule that an element breaks, or 0.
-pub fn fault(p: Progress, e: Element) -> u32
+// The first rule that an element breaks.
+pub fn fault(p: Progress, e: Element) -> Result<(), Reason>
     ensures { result ≡ fault_of p e }
 {
-    let f = standing_fault(p, e);
-    if f != 0 {
-        return f;
-    }
+    standing_fault(p, e)?;
     if too_far(p, e) {
-        return Refusal::SPAN;
+        return Err(Reason::Span);
     }
     if grant_too_long(p, e) {
-        return Refusal::GRANT;
+        return Err(Reason::Grant);
     }
-    0
+    Ok(())
 }
 
 pub fn nothing_yet() -> Progress
@@ -172,17 +170,17 @@ pub fn advance(p: Progress, e: Element, i: u32) -> Progress
     }
 }
 
-pub fn ended(p: Progress, n: u32) -> Walked
+pub fn ended(p: Progress, n: u32) -> Result<Whole, Refusal>
     ensures { result ≡ ended_at n p }
 {
     if p.closed {
-        return Walked::Whole {
+        return Ok(Whole {
             null: p.null,
             length: p.offset,
-        };
+        });
     }
-    Walked::Fault(Refusal {
-        number: Refusal::NULL,
+    Err(Refusal {
+        reason: Reason::Null,
         element: n,
     })
 }

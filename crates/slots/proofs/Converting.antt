@@ -1,28 +1,28 @@
 -- The conversion: a mini-slot of at most 2^7 ticks, 64 counts each, and its count fits 64 bits.
 use Rattle.std.proofs.Common.{◌≡◌, ℕ, ◌*◌, ◌%◌, ◌^◌, ◌<◌, ◌≤◌, Bool, true, false, cond, ◌&&◌, leb, refl, ap, ◌∙◌, mod-eq_of_lt, mul_assoc, mul-le-mul_left, one-mul, arith, pow_mono, le-leb}
 use borrow.Author.Tests.{lt-leb}
-use Rattle.slots.specs.declared.time.Begins.{Begins}
-use Rattle.slots.specs.declared.time.Begins.TheVariants.{At, Size}
+use Rattle.std.specs.Prelude.{Option, Some, None}
+use Rattle.slots.specs.declared.time.Timestamp.{Timestamp}
 use Rattle.slots.specs.Begins.{size_allowed, begins_at, number_of, size_fault}
 
 -- an answer that is the definition's stands for the number that the paper gives
-pub numbered : (n m : ℕ) (r : Begins) → r ≡ begins_at n m → (r ≡ begins_at n m) × (number_of r ≡ size_fault m)
+pub numbered : (n m : ℕ) (r : Option Timestamp) → r ≡ begins_at n m → (r ≡ begins_at n m) × (number_of r ≡ size_fault m)
 unfolding begins_at size_fault
 numbered n m r e = (e, ap number_of e ∙ go (size_allowed m))
   where
-    go : (b : Bool) → number_of (cond b (At (record { 0 = n * 2 ^ m * 64 % 2 ^ 32 })) Size) ≡ cond b 0 17
+    go : (b : Bool) → number_of (cond b (Some (record { 0 = n * 2 ^ m * 64 % 2 ^ 32 })) None) ≡ cond b 0 17
     go true = refl
     go false = refl
 
-pub begins_small : (n m : ℕ) → m < 1 → Size ≡ begins_at n m
+pub begins_small : (n m : ℕ) → m < 1 → None ≡ begins_at n m
 unfolding begins_at
 begins_small n m h = simp (lt-leb 1 m h)
 
-pub begins_large : (n m : ℕ) → 7 < m → Size ≡ begins_at n m
+pub begins_large : (n m : ℕ) → 7 < m → None ≡ begins_at n m
 unfolding begins_at
 begins_large n m h = go (leb 1 m)
   where
-    go : (b : Bool) → Size ≡ cond (b && leb m 7) (At (record { 0 = n * 2 ^ m * 64 % 2 ^ 32 })) Size
+    go : (b : Bool) → ◌≡◌ {A = Option Timestamp} None (cond (b && leb m 7) (Some (record { 0 = n * 2 ^ m * 64 % 2 ^ 32 })) None)
     go true = simp (lt-leb m 7 h)
     go false = refl
 
@@ -44,6 +44,6 @@ module _ (m : ℕ) (h : m ≤ 7) where
         let most : n * (1 * 2 ^ m % 18446744073709551616 * k) ≤ n * 8192 = mul-le-mul_left n (omega (arith, ticks, ticks_few)) in
         omega arith
 
-  pub begins_at_lem : (n : ℕ) → 1 ≤ m → At (record { 0 = n * (1 * 2 ^ m % 18446744073709551616 * 64) % 4294967296 }) ≡ begins_at n m
+  pub begins_at_lem : (n : ℕ) → 1 ≤ m → Some (record { 0 = n * (1 * 2 ^ m % 18446744073709551616 * 64) % 4294967296 }) ≡ begins_at n m
   unfolding begins_at
   begins_at_lem n l = rw (ticks, ← mul_assoc n (2 ^ m) 64) (simp (le-leb 1 m l, le-leb m 7 h))

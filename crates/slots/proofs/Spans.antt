@@ -1,5 +1,6 @@
 -- The ways through the span's functions: one law each.
 use Rattle.std.proofs.Common.{◌≡◌, ℕ, ◌^◌, ◌<◌, ◌≤◌, Bool, true, false, not, sym, refl, ◌∙◌, mod-eq_of_lt, le-ltb, lt-ltb, le-leb}
+use Rattle.std.specs.Prelude.{Option, Some, None}
 use borrow.Author.Tests.{lt-leb, not-true}
 use Rattle.slots.specs.declared.time.MiniSlot.{MiniSlot}
 use Rattle.slots.specs.declared.span.Span.{Span}
@@ -49,10 +50,10 @@ module _ (w s n : ℕ) where
   unfolding added
   added_over r p e l t h k f = rw h (rw k at f)
 
-  pub added_taken : (p r : Span) → n ≤ 4096 → r ≡ added w p s n → record { taken = true; span = r } ≡ added_to w p s n
+  pub added_taken : (p r : Span) → n ≤ 4096 → r ≡ added w p s n → Some r ≡ added_to w p s n
   added_taken p r h k = rw (le-leb n 4096 h, k) refl
 
-  pub added_refused : (p : Span) → 4096 < n → record { taken = false; span = p } ≡ added_to w p s n
+  pub added_refused : (p : Span) → 4096 < n → None ≡ added_to w p s n
   added_refused p h = rw (lt-leb n 4096 h) refl
 
 pub ruleset ways = (said, said_not, further_other, further_one, widened_late, widened_early, widened_lost, added_first, added_lost, added_over, added_taken, added_refused)

@@ -2,8 +2,8 @@
 use Rattle.std.proofs.Common.{◌≡◌, ℕ, Bool, true, false, not, ◌&&◌, eqb, [], ◌∷◌, refl}
 use Rattle.slots.specs.declared.span.Span.{Span}
 use Rattle.slots.specs.declared.span.Span.TheVariants.{Nothing, Lost, Over}
-use Rattle.slots.specs.declared.time.Begins.{Begins}
-use Rattle.slots.specs.declared.time.Begins.TheVariants.{At, Size}
+use Rattle.std.specs.Prelude.{Option, Some, None}
+use Rattle.slots.specs.declared.time.Timestamp.{Timestamp}
 use Rattle.slots.specs.Time.{ahead, earlier}
 use Rattle.slots.specs.Begins.{begins_at}
 use Rattle.slots.specs.Span.{Described, within, qualifies, further, furthest, span_from, span_of}
@@ -21,13 +21,13 @@ lost Nothing = false
 lost Lost = true
 lost (Over x y) = false
 
-abbrev begins : ℕ → Begins → Bool
-begins t (At x) = eqb t x.0
-begins t Size = false
+abbrev begins : ℕ → Option Timestamp → Bool
+begins t (Some x) = eqb t x.0
+begins t None = false
 
-abbrev refused_size : Begins → Bool
-refused_size (At x) = false
-refused_size Size = true
+abbrev refused_size : Option Timestamp → Bool
+refused_size (Some x) = false
+refused_size None = true
 
 unfoldable pub earlier_numbers : Bool
 earlier_numbers = earlier 32 4294967290 4 && not (earlier 32 0 2147483648) && not (earlier 32 2147483648 0)

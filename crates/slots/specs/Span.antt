@@ -1,8 +1,7 @@
 -- Document 01, "Time": the span of some MAPs, given by their starts and lengths. Over a width of w bits.
-use Rattle.std.specs.Prelude.{ℕ, ◌%◌, ◌^◌, Bool, true, false, cond, ◌&&◌, List, [], ◌∷◌, nat_le, nat_lt}
+use Rattle.std.specs.Prelude.{ℕ, ◌%◌, ◌^◌, Bool, true, false, cond, ◌&&◌, List, [], ◌∷◌, nat_le, nat_lt, Option, Some, None}
 use Rattle.slots.specs.declared.span.Span.{Span}
 use Rattle.slots.specs.declared.span.Span.TheVariants.{Nothing, Lost, Over}
-use Rattle.slots.specs.declared.span.Added.{Added}
 use Rattle.slots.specs.Time.{ahead, half, moved_on}
 
 -- a MAP, as far as the span goes
@@ -68,5 +67,5 @@ module _ (w : ℕ) where
   added_all p (m ∷ ms) = added_all (added p m.start m.length) ms
 
 -- a MAP is at most 4,096 mini-slots long; what is longer is not taken, and the span stays as it was
-abbrev pub added_to : ℕ → Span → ℕ → ℕ → Added
-added_to w p s n = cond (nat_le n 4096) (record { taken = true; span = added w p s n }) (record { taken = false; span = p })
+abbrev pub added_to : ℕ → Span → ℕ → ℕ → Option Span
+added_to w p s n = cond (nat_le n 4096) (Some (added w p s n)) None

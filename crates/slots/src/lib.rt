@@ -4,5 +4,5 @@
 pub mod span;
 pub mod time;
 
-pub use span::{Added, Span};
-pub use time::{Begins, MiniSlot, Timestamp};
+pub use span::Span;
+pub use time::{MiniSlot, Timestamp};

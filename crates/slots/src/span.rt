@@ -15,13 +15,6 @@ pub enum Span {
     },
 }
 
-// The span with one MAP more; or, where it is too long to be a MAP, the span as it was.
-#[derive(Clone, Copy)]
-pub struct Added {
-    pub taken: bool,
-    pub span: Span,
-}
-
 impl Span {
     pub const LONGEST_MAP: u32 = 4096;
 
@@ -31,19 +24,14 @@ impl Span {
         Span::Nothing
     }
 
-    pub fn add(self, start: MiniSlot, length: u32) -> Added
+    // The span with one MAP more; none where it is too long to be a MAP: the span stays as it was.
+    pub fn add(self, start: MiniSlot, length: u32) -> Option<Span>
         ensures { result ≡ added_to 32 self start.0 length }
     {
-        if length <= Span::LONGEST_MAP {
-            return Added {
-                taken: true,
-                span: with_map(self, start, length),
-            };
+        if Span::LONGEST_MAP < length {
+            return None;
         }
-        Added {
-            taken: false,
-            span: self,
-        }
+        Some(with_map(self, start, length))
     }
 }
 

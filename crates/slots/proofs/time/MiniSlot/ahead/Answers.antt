@@ -1,6 +1,7 @@
-use Rattle.std.proofs.Common.{rules}
-use Rattle.slots.proofs.Rolling.{ahead_is}
+use Rattle.std.proofs.Common.{◌<◌, rules, mod-eq_of_lt, refl}
+use Rattle.slots.specs.Time.{ahead}
 use Rattle.slots.proofs.time.MiniSlot.ahead.Goals as goal
 
 pub returns : goal.returns
-returns c = ahead_is 32 c.args.self.0 c.args.other.0 c.wrapping_sub_u32.result (search rules) c.wrapping_sub_u32.ensures.value
+unfolding ahead
+returns c = let b : c.args.self.0 < 4294967296 = search rules in rw (mod-eq_of_lt b) refl
