@@ -12,20 +12,20 @@ use lib.ListN.{length}
 use borrow.Author.Tests.{ltb-false, leb-true, leb-false, eqb-true, eqb-false, eq-eqb, ne_eqb}
 use Rattle.rules.specs.declared.element.Element.{Element}
 use Rattle.rules.specs.declared.rules.Progress.{Progress}
-use Rattle.rules.specs.declared.rules.Walked.{Walked}
-use Rattle.rules.specs.declared.rules.Walked.TheVariants.{Whole, Fault}
+use Rattle.std.specs.Prelude.{Result, Ok, Err}
+use Rattle.rules.specs.declared.rules.Whole.{Whole}
+use Rattle.rules.specs.declared.refusal.Reason.{Reason}
+use Rattle.rules.specs.declared.refusal.Reason.TheVariants.{Use, Null, Sid, Place, Span, Grant}
+use Rattle.rules.specs.declared.refusal.Refusal.{Refusal}
 use Rattle.message.specs.declared.reading.Reading.{Reading}
-use Rattle.message.specs.declared.reading.Verdict.{Verdict}
-use Rattle.message.specs.declared.reading.Verdict.TheVariants.{Accepted, Refused}
 use Rattle.message.specs.declared.reading.Checked.{Checked}
-use Rattle.message.specs.declared.reading.Checked.TheVariants as checked
 use Rattle.message.specs.Element.{element_in, element_at}
 use Rattle.message.specs.Fields.{fields_of, count_of}
-use Rattle.rules.specs.Refusals.{refusal}
+use Rattle.rules.specs.Refusals.{refusal, unless}
 use Rattle.message.specs.Lists.{listed, keep, gather}
 use Rattle.rules.specs.Rules.{granting, unknown_use, misordered, wrong_sid, misplaced, too_far, grant_too_long, fault_of, nothing_yet, advanced, ended_at, walked}
 use Rattle.message.specs.Map.{Interval, first_offset, intervals, map_length, after_null}
-use Rattle.message.specs.Reading.{header_fault, verdict_of, map_of, read_of}
+use Rattle.message.specs.Reading.{header_fault, reading_of, map_of, read_of}
 use Rattle.message.specs.Scan.{checked_by}
 use Rattle.rules.proofs.Ways.{advanced_after}
 use Rattle.message.proofs.Ways.{passed, Sound, header_sound, element_there}
@@ -43,6 +43,17 @@ pub gather_append : {A B : Type 0} (f : A → List B) (xs ys : List A) → gathe
 gather_append f [] ys = refl
 gather_append f (x ∷ xs) ys = rw (append_assoc, gather_append f xs ys) refl
 
+-- a walk that comes out whole, by where the Null stands and the map length
+abbrev pub as_whole : ℕ → ℕ → Result Whole Refusal
+as_whole null length = Ok (record { null = null; length = length })
+
+abbrev the_whole : Result Whole Refusal → Whole
+the_whole (Ok w) = w
+the_whole (Err why) = record { null = 0; length = 0 }
+
+whole_parts : {a b c d : ℕ} → as_whole a b ≡ as_whole c d → (a ≡ c) × (b ≡ d)
+whole_parts e = (ap (λ (r : Result Whole Refusal). (the_whole r).null) e, ap (λ (r : Result Whole Refusal). (the_whole r).length) e)
+
 -- an element that breaks no rule
 pub record Passes (p : Progress) (e : Element) : Type 0 where
   pub used : unknown_use e ≡ false
@@ -52,15 +63,15 @@ pub record Passes (p : Progress) (e : Element) : Type 0 where
   pub near : too_far p e ≡ false
   pub short : grant_too_long p e ≡ false
 
-pub passes : (p : Progress) (e : Element) → fault_of p e ≡ 0 → Passes p e
+pub passes : (p : Progress) (e : Element) → fault_of p e ≡ Ok tt → Passes p e
 unfolding fault_of
 passes p e h =
-    let five = passed (unknown_use e) 4 _ h in
-    let ten = passed (misordered p e) 9 _ five.1 in
-    let six = passed (wrong_sid e) 5 _ ten.1 in
-    let seven = passed (misplaced p e) 6 _ six.1 in
-    let eight = passed (too_far p e) 7 _ seven.1 in
-    let nine = passed (grant_too_long p e) 8 0 eight.1 in
+    let five = passed (unknown_use e) Use _ h in
+    let ten = passed (misordered p e) Null _ five.1 in
+    let six = passed (wrong_sid e) Sid _ ten.1 in
+    let seven = passed (misplaced p e) Place _ six.1 in
+    let eight = passed (too_far p e) Span _ seven.1 in
+    let nine = passed (grant_too_long p e) Grant (Ok tt) eight.1 in
     record { used = five.0; ordered = ten.0; allowed = six.0; placed = seven.0; near = eight.0; short = nine.0 }
 
 -- what is known after an element that is not the Null
@@ -69,41 +80,41 @@ onward e = record { first = false; closed = false; null = 0; offset = e.offset; 
 
 module _ (a b : ℕ) where
   -- the first element of a whole walk passes, and the rest is whole
-  pub whole_step : (i : ℕ) (p : Progress) (e : Element) (es : List Element) → walked i p (e ∷ es) ≡ Whole a b → Passes p e × (walked (i + 1) (advanced p e i) es ≡ Whole a b)
+  pub whole_step : (i : ℕ) (p : Progress) (e : Element) (es : List Element) → walked i p (e ∷ es) ≡ as_whole a b → Passes p e × (walked (i + 1) (advanced p e i) es ≡ as_whole a b)
   unfolding walked
-  whole_step i p e es w = go (eqb (fault_of p e) 0) refl w
+  whole_step i p e es w = go (fault_of p e) refl w
     where
-      go : (t : Bool) → eqb (fault_of p e) 0 ≡ t → cond t (walked (i + 1) (advanced p e i) es) (Fault (refusal (fault_of p e) i)) ≡ Whole a b → Passes p e × (walked (i + 1) (advanced p e i) es ≡ Whole a b)
-      go true h v = (passes p e (eqb-true (fault_of p e) 0 h), v)
-      go false h v = let z : ◌≡◌ {A = ℕ} 0 1 = cc in absurd (omega arith)
+      go : (f : Result Unit Reason) → fault_of p e ≡ f → unless f i (walked (i + 1) (advanced p e i) es) ≡ as_whole a b → Passes p e × (walked (i + 1) (advanced p e i) es ≡ as_whole a b)
+      go (Ok tt) h v = (passes p e h, v)
+      go (Err why) h v = let z : ◌≡◌ {A = ℕ} 0 1 = cc in absurd (omega arith)
 
   -- after the Null nothing moves any more
-  pub whole_closed : (i : ℕ) (p : Progress) (es : List Element) → p.closed ≡ true → walked i p es ≡ Whole a b → (p.null ≡ a) × (p.offset ≡ b)
+  pub whole_closed : (i : ℕ) (p : Progress) (es : List Element) → p.closed ≡ true → walked i p es ≡ as_whole a b → (p.null ≡ a) × (p.offset ≡ b)
   unfolding walked ended_at
-  whole_closed i p [] h w = let v : Whole p.null p.offset ≡ Whole a b = rw h at w in (cc, cc)
+  whole_closed i p [] h w = let v : as_whole p.null p.offset ≡ as_whole a b = rw h at w in whole_parts v
   whole_closed i p (e ∷ es) h w = whole_closed (i + 1) p es h (rw (← advanced_after p e i h) at (whole_step i p e es w).1)
 
   -- before it there is one to come
-  pub whole_open : (i : ℕ) (p : Progress) → p.closed ≡ false → walked i p [] ≡ Whole a b → ⊥
+  pub whole_open : (i : ℕ) (p : Progress) → p.closed ≡ false → walked i p [] ≡ as_whole a b → ⊥
   unfolding walked ended_at
-  whole_open i p h w = let v : Fault (refusal 10 i) ≡ Whole a b = rw h at w in let z : ◌≡◌ {A = ℕ} 0 1 = cc in omega arith
+  whole_open i p h w = let v : ◌≡◌ {A = Result Whole Refusal} (Err (refusal Null i)) (as_whole a b) = rw h at w in let z : ◌≡◌ {A = ℕ} 0 1 = cc in omega arith
 
-  module _ (i : ℕ) (p : Progress) (e : Element) (es : List Element) (h : p.closed ≡ false) (w : walked (i + 1) (advanced p e i) es ≡ Whole a b) where
+  module _ (i : ℕ) (p : Progress) (e : Element) (es : List Element) (h : p.closed ≡ false) (w : walked (i + 1) (advanced p e i) es ≡ as_whole a b) where
     -- the Null gives its number and its offset
     pub whole_null : eqb e.iuc 7 ≡ true → (i ≡ a) × (e.offset ≡ b)
     unfolding advanced
     whole_null k = whole_closed (i + 1) (record { first = false; closed = true; null = i; offset = e.offset; granting = false }) es refl (rw (h, k) at w)
 
-    pub whole_rest : eqb e.iuc 7 ≡ false → walked (i + 1) (onward e) es ≡ Whole a b
+    pub whole_rest : eqb e.iuc 7 ≡ false → walked (i + 1) (onward e) es ≡ as_whole a b
     unfolding advanced
     whole_rest k = rw (h, k) at w
 
-  pub whole_length : (i : ℕ) (p : Progress) (es : List Element) → p.closed ≡ false → walked i p es ≡ Whole a b → map_length es ≡ b
+  pub whole_length : (i : ℕ) (p : Progress) (es : List Element) → p.closed ≡ false → walked i p es ≡ as_whole a b → map_length es ≡ b
   unfolding map_length
   whole_length i p [] h w = absurd (whole_open i p h w)
   whole_length i p (e ∷ es) h w = go (eqb e.iuc 7) refl (whole_step i p e es w).1 (λ v. whole_length (i + 1) (onward e) es refl v)
     where
-      go : (t : Bool) → eqb e.iuc 7 ≡ t → walked (i + 1) (advanced p e i) es ≡ Whole a b → (walked (i + 1) (onward e) es ≡ Whole a b → map_length es ≡ b) → cond t e.offset (map_length es) ≡ b
+      go : (t : Bool) → eqb e.iuc 7 ≡ t → walked (i + 1) (advanced p e i) es ≡ as_whole a b → (walked (i + 1) (onward e) es ≡ as_whole a b → map_length es ≡ b) → cond t e.offset (map_length es) ≡ b
       go true k v more = (whole_null i p e es h v k).1
       go false k v more = more (whole_rest i p e es h v k)
 
@@ -122,14 +133,14 @@ pub record Inner (p : Progress) (es : List Element) (length : ℕ) : Type 0 wher
   pub short : length ≤ 4096
   pub each : (k : Interval) → Memᴰ k (intervals es) → (1 ≤ k.length) × (k.first + k.length ≤ length)
 
-pub whole_inner : (a b i : ℕ) (p : Progress) (es : List Element) → p.closed ≡ false → walked i p es ≡ Whole a b → Inner p es b
+pub whole_inner : (a b i : ℕ) (p : Progress) (es : List Element) → p.closed ≡ false → walked i p es ≡ as_whole a b → Inner p es b
 unfolding intervals
 whole_inner a b i p [] h w = absurd (whole_open a b i p h w)
 whole_inner a b i p (e ∷ es) h w =
     let s = whole_step a b i p e es w in
     go (eqb e.iuc 7) refl s.0 s.1 (λ v. whole_inner a b (i + 1) (onward e) es refl v)
   where
-    go : (t : Bool) → eqb e.iuc 7 ≡ t → Passes p e → walked (i + 1) (advanced p e i) es ≡ Whole a b → (walked (i + 1) (onward e) es ≡ Whole a b → Inner (onward e) es b) → Inner p (e ∷ es) b
+    go : (t : Bool) → eqb e.iuc 7 ≡ t → Passes p e → walked (i + 1) (advanced p e i) es ≡ as_whole a b → (walked (i + 1) (onward e) es ≡ as_whole a b → Inner (onward e) es b) → Inner p (e ∷ es) b
     go true t s v more =
         let end : e.offset ≡ b = (whole_null a b i p e es h v t).1 in
         record {
@@ -171,15 +182,15 @@ from_one P i j h one more = go (leb (i + 1) j) refl
     go false e = let l = leb-false (i + 1) j e in let z : i ≡ j = omega arith in subst P z one
 
 module _ (el : ℕ → Element) (a b : ℕ) where
-  pub framed : (k i : ℕ) (p : Progress) → p.closed ≡ false → walked i p (listed el i k) ≡ Whole a b → Framed el i (i + k) a b × (p.first ≡ false → p.offset < (el i).offset)
+  pub framed : (k i : ℕ) (p : Progress) → p.closed ≡ false → walked i p (listed el i k) ≡ as_whole a b → Framed el i (i + k) a b × (p.first ≡ false → p.offset < (el i).offset)
   unfolding listed
   framed zero i p h w = absurd (whole_open a b i p h w)
   framed (suc k) i p h w =
       let s = whole_step a b i p (el i) (listed el (i + 1) k) w in
       go (eqb (el i).iuc 7) refl s.0 s.1 (λ v. framed k (i + 1) (onward (el i)) refl v)
     where
-      go : (t : Bool) → eqb (el i).iuc 7 ≡ t → Passes p (el i) → walked (i + 1) (advanced p (el i) i) (listed el (i + 1) k) ≡ Whole a b →
-          (walked (i + 1) (onward (el i)) (listed el (i + 1) k) ≡ Whole a b → Framed el (i + 1) (i + 1 + k) a b × (false ≡ false → (el i).offset < (el (i + 1)).offset)) →
+      go : (t : Bool) → eqb (el i).iuc 7 ≡ t → Passes p (el i) → walked (i + 1) (advanced p (el i) i) (listed el (i + 1) k) ≡ as_whole a b →
+          (walked (i + 1) (onward (el i)) (listed el (i + 1) k) ≡ as_whole a b → Framed el (i + 1) (i + 1 + k) a b × (false ≡ false → (el i).offset < (el (i + 1)).offset)) →
           Framed el i (i + suc k) a b × (p.first ≡ false → p.offset < (el i).offset)
       go true e s v more =
           let n = whole_null a b i p (el i) (listed el (i + 1) k) h v e in
@@ -260,21 +271,21 @@ pub record Accept (s : List ℕ) (reading : Reading) : Type 0 where
   pub sound : Sound s
   pub fields : reading.fields ≡ fields_of s
   pub number : reading.n ≡ count_of s
-  pub walk : walked 0 nothing_yet (map_of s).elements ≡ Whole reading.null reading.length
+  pub walk : walked 0 nothing_yet (map_of s).elements ≡ as_whole reading.null reading.length
   pub elements : (map_of s).elements ≡ listed (element_at s) 0 reading.n
   pub ends : map_length (map_of s).elements ≡ reading.length
   pub inner : Inner nothing_yet (map_of s).elements reading.length
   pub frame : Framed (element_at s) 0 reading.n reading.null reading.length
 
-pub accepted : (s : List ℕ) (reading : Reading) → read_of s ≡ Accepted reading → Accept s reading
+pub accepted : (s : List ℕ) (reading : Reading) → read_of s ≡ Ok reading → Accept s reading
 unfolding read_of
-accepted s reading w = header (eqb (header_fault s) 0) refl w
+accepted s reading w = header (header_fault s) refl w
   where
-    whole : Sound s → (v : Walked) → walked 0 nothing_yet (map_of s).elements ≡ v → verdict_of (fields_of s) (count_of s) v ≡ Accepted reading → Accept s reading
-    whole sound (Fault r) e x = let z : ◌≡◌ {A = ℕ} 0 1 = cc in absurd (omega arith)
-    whole sound (Whole null end) e x =
-        let got : record { fields = fields_of s; n = count_of s; null = null; length = end } ≡ reading = cc in
-        let walk : walked 0 nothing_yet (map_of s).elements ≡ Whole reading.null reading.length = rw (← got) e in
+    whole : Sound s → (v : Result Whole Refusal) → walked 0 nothing_yet (map_of s).elements ≡ v → reading_of (fields_of s) (count_of s) v ≡ Ok reading → Accept s reading
+    whole sound (Err why) e x = let z : ◌≡◌ {A = ℕ} 0 1 = cc in absurd (omega arith)
+    whole sound (Ok v) e x =
+        let got : record { fields = fields_of s; n = count_of s; null = v.null; length = v.length } ≡ reading = cc in
+        let walk : walked 0 nothing_yet (map_of s).elements ≡ as_whole reading.null reading.length = rw (← got) e in
         let number : reading.n ≡ count_of s = sym (ap (λ (r : Reading). r.n) got) in
         let fields : reading.fields ≡ fields_of s = sym (ap (λ (r : Reading). r.fields) got) in
         let at : (map_of s).elements ≡ listed (element_at s) 0 (count_of s) = elements_at s (count_of s) 0 (omega (arith, sound.fits)) in
@@ -289,29 +300,24 @@ accepted s reading w = header (eqb (header_fault s) 0) refl w
           frame = rw number (rw zero-add at (framed (element_at s) reading.null reading.length (count_of s) 0 nothing_yet refl (rw (← at) walk)).0);
         }
 
-    header : (t : Bool) → eqb (header_fault s) 0 ≡ t → cond t (verdict_of (map_of s).fields (count_of s) (walked 0 nothing_yet (map_of s).elements)) (Refused (refusal (header_fault s) 0)) ≡ Accepted reading → Accept s reading
-    header false h x = let z : ◌≡◌ {A = ℕ} 0 1 = cc in absurd (omega arith)
-    header true h x = whole (header_sound s (eqb-true (header_fault s) 0 h)) (walked 0 nothing_yet (map_of s).elements) refl x
+    header : (f : Result Unit Reason) → header_fault s ≡ f → unless f 0 (reading_of (map_of s).fields (count_of s) (walked 0 nothing_yet (map_of s).elements)) ≡ Ok reading → Accept s reading
+    header (Err why) h x = let z : ◌≡◌ {A = ℕ} 0 1 = cc in absurd (omega arith)
+    header (Ok tt) h x = whole (header_sound s h) (walked 0 nothing_yet (map_of s).elements) refl x
 
--- what a check that says no more than the bytes don't tell leaves of the verdict
-module _ (s : List ℕ) (c : Checked) (is : c ≡ checked_by (read_of s)) where
-  pub checked_whole : (k n l : ℕ) → c ≡ checked.Whole k n l → read_of s ≡ Accepted (record { fields = fields_of s; n = n; null = k; length = l })
-  checked_whole k n l e = go (read_of s) refl (sym is ∙ e)
+-- what a check that says no more than the bytes don't tell leaves of the reading
+module _ (s : List ℕ) (c : Result Checked Refusal) (is : c ≡ checked_by (read_of s)) where
+  pub checked_whole : (v : Checked) → c ≡ Ok v → read_of s ≡ Ok (record { fields = fields_of s; n = v.n; null = v.whole.null; length = v.whole.length })
+  checked_whole v e = go (read_of s) refl (sym is ∙ e)
     where
-      go : (v : Verdict) → read_of s ≡ v → checked_by v ≡ checked.Whole k n l → v ≡ Accepted (record { fields = fields_of s; n = n; null = k; length = l })
-      go (Accepted r) w h =
-          let a : k ≡ r.null = cc in
-          let b : n ≡ r.n = cc in
-          let d : l ≡ r.length = cc in
-          rw (a, b, d, ← (accepted s r w).fields) refl
-      go (Refused why) w h = absurd (let z : ◌≡◌ {A = ℕ} 0 1 = cc in omega arith)
+      go : (x : Result Reading Refusal) → read_of s ≡ x → checked_by x ≡ Ok v → x ≡ Ok (record { fields = fields_of s; n = v.n; null = v.whole.null; length = v.whole.length })
+      go (Ok r) w h =
+          let a : record { n = r.n; whole = record { null = r.null; length = r.length } } ≡ v = cc in
+          rw (← a, ← (accepted s r w).fields) refl
+      go (Err why) w h = absurd (let z : ◌≡◌ {A = ℕ} 0 1 = cc in omega arith)
 
-  pub checked_fault : (number element : ℕ) → c ≡ checked.Fault number element → read_of s ≡ Refused (refusal number element)
-  checked_fault number element e = go (read_of s) (sym is ∙ e)
+  pub checked_fault : (why : Refusal) → c ≡ Err why → read_of s ≡ Err why
+  checked_fault why e = go (read_of s) (sym is ∙ e)
     where
-      go : (v : Verdict) → checked_by v ≡ checked.Fault number element → v ≡ Refused (refusal number element)
-      go (Accepted r) h = absurd (let z : ◌≡◌ {A = ℕ} 0 1 = cc in omega arith)
-      go (Refused why) h =
-          let a : number ≡ why.number = cc in
-          let b : element ≡ why.element = cc in
-          rw (a, b) refl
+      go : (x : Result Reading Refusal) → checked_by x ≡ Err why → x ≡ Err why
+      go (Ok r) h = absurd (let z : ◌≡◌ {A = ℕ} 0 1 = cc in omega arith)
+      go (Err w) h = let same : w ≡ why = cc in rw same refl

@@ -11,12 +11,10 @@ use lib.ListN.{length}
 use borrow.Author.Tests.{lt-leb, ne_eqb, eqb-true}
 use Rattle.slots.proofs.Rolling.{order}
 use Rattle.rules.specs.declared.element.Element.{Element}
+use Rattle.std.specs.Prelude.{Option, Some, None, Ok, Err}
 use Rattle.message.specs.declared.grants.Found.{Found}
-use Rattle.message.specs.declared.grants.Found.TheVariants.{At, Nothing}
 use Rattle.message.specs.declared.grants.Granted.{Granted}
-use Rattle.message.specs.declared.grants.Granted.TheVariants as granted
 use Rattle.message.specs.declared.reading.Reading.{Reading}
-use Rattle.message.specs.declared.reading.Verdict.TheVariants as verdict
 use Rattle.rules.specs.declared.refusal.Refusal.{Refusal}
 use Rattle.slots.specs.declared.time.MiniSlot.{MiniSlot}
 use Rattle.slots.specs.Time.{moved_on}
@@ -51,13 +49,13 @@ listed_first el n i h z = go (order n i)
     go (inr k) = rw (listed_more el n i k) refl
 
 -- what is left of a scan gives the answer of the whole; el says what stands at each number
-module _ (el : ℕ → Element) (n sid : ℕ) (whole : Found) (i left : ℕ) (found : kth_grant (listed el i (n - i)) sid left ≡ whole) where
-  pub scan_end : n ≤ i → Nothing ≡ whole
+module _ (el : ℕ → Element) (n sid : ℕ) (whole : Option Found) (i left : ℕ) (found : kth_grant (listed el i (n - i)) sid left ≡ whole) where
+  pub scan_end : n ≤ i → None ≡ whole
   unfolding kth_grant grants_to intervals kth_of
   scan_end h = rw (listed_none el n i h) at found
 
   module _ (more : i < n) (e : Element) (is : e ≡ el i) where
-    pub scan_null : e.iuc ≡ 7 → Nothing ≡ whole
+    pub scan_null : e.iuc ≡ 7 → None ≡ whole
     unfolding kth_grant grants_to intervals kth_of
     scan_null h = rw (listed_more el n i more, ← is, h) at found
 
@@ -69,11 +67,11 @@ module _ (el : ℕ → Element) (n sid : ℕ) (whole : Found) (i left : ℕ) (fo
       unfolding kth_grant grants_to intervals interval grants_sid
       step = rw (follows, ← listed_first el n (i + 1) (omega arith) past) (rw (listed_more el n i more, ← is, ne_eqb e.iuc 7 open') at found)
 
-      pub scan_hit : (h : Bool) (r : ℕ) → h ≡ hits e sid left → h ≡ true → r ≡ next.offset - e.offset → At e.offset r ≡ whole
+      pub scan_hit : (h : Bool) (r : ℕ) → h ≡ hits e sid left → h ≡ true → r ≡ next.offset - e.offset → Some (record { offset = e.offset; length = r }) ≡ whole
       unfolding interval kth_of hits
       scan_hit h r a b c = go (grants_sid e sid) refl (eqb left 0) refl
         where
-          go : (g : Bool) → grants_sid e sid ≡ g → (z : Bool) → eqb left 0 ≡ z → At e.offset r ≡ whole
+          go : (g : Bool) → grants_sid e sid ≡ g → (z : Bool) → eqb left 0 ≡ z → Some (record { offset = e.offset; length = r }) ≡ whole
           go true p true q = rw (p, eqb-true left 0 q, ← c) at step
           go true p false q = absurd (let z : ◌≡◌ {A = ℕ} 0 1 = cc in omega arith)
           go false p z q = absurd (let z' : ◌≡◌ {A = ℕ} 0 1 = cc in omega arith)
@@ -103,14 +101,14 @@ scan_begins el n sid k i left a b = rw (a, b, sub-zero n) refl
 
 pub ruleset scans = (scan_hit, scan_next, past_end)
 
-pub granted_at_lem : (start : ℕ) (f : Found) (r : MiniSlot) (o l : ℕ) → f ≡ At o l → r.0 ≡ moved_on 32 start o → granted.At r l ≡ granted_at start f
-granted_at_lem start f r o l e h = rw (e, ← h) refl
+pub granted_at_lem : (start : ℕ) (f : Option Found) (r : MiniSlot) (v : Found) → f ≡ Some v → r.0 ≡ moved_on 32 start v.offset → Some (record { first = r; length = v.length }) ≡ granted_at start f
+granted_at_lem start f r v e h = rw (e, ← h) refl
 
 module _ (s : List ℕ) (sid k : ℕ) where
-  pub grant_refused : (why : Refusal) → read_of s ≡ verdict.Refused why → granted.Refused why ≡ grant_of s sid k
+  pub grant_refused : (why : Refusal) → read_of s ≡ Err why → Err why ≡ grant_of s sid k
   unfolding grant_of
   grant_refused why e = rw e refl
 
-  pub grant_read : (r : Reading) (fs : Fields) (f : Found) (g : Granted) → read_of s ≡ verdict.Accepted r → fs ≡ fields_of s → f ≡ kth_grant (listed (element_at s) 0 r.n) sid k → g ≡ granted_at fs.start.0 f → g ≡ grant_of s sid k
+  pub grant_read : (r : Reading) (fs : Fields) (f : Option Found) (g : Option Granted) → read_of s ≡ Ok r → fs ≡ fields_of s → f ≡ kth_grant (listed (element_at s) 0 r.n) sid k → g ≡ granted_at fs.start.0 f → Ok g ≡ grant_of s sid k
   unfolding grant_of
-  grant_read r fs f g e h a b = rw (e, (accepted s r e).elements, ← h, ← a) b
+  grant_read r fs f g e h a b = rw (e, (accepted s r e).elements, ← h, ← a, b) refl

@@ -6,8 +6,7 @@ use native.Mathlib.Omega.{arith}
 use lib.ListN.{length, take, drop, length-drop, drop_of_length-le}
 use lib.Seq.{take_all, drop-length}
 use Rattle.message.specs.declared.reading.Reading.{Reading}
-use Rattle.message.specs.declared.reading.Verdict.{Verdict}
-use Rattle.message.specs.declared.reading.Verdict.TheVariants.{Accepted, Refused}
+use Rattle.std.specs.Prelude.{Result, Ok, Err}
 use Rattle.rules.specs.declared.refusal.Refusal.{Refusal}
 use Rattle.message.specs.Element.{element_at}
 use Rattle.message.specs.Lists.{listed}
@@ -23,12 +22,12 @@ module _ (s : List ℕ) (at : ℕ) where
   pub part_rest : take (length s - at) (drop at s) ≡ drop at s
   part_rest = take_all (length s - at) (drop at s) (omega (arith, length-drop at s))
 
-module _ (s : List ℕ) (v : Verdict) (is : v ≡ read_of s) (p : List ℕ) (whole part : ℕ × ℕ) where
-  pub part_accepted : (r : Reading) → v ≡ Accepted r → (p ≡ drop (20 + 4 * r.null) s) × PartAt (start_after r.null s) whole part → (p ≡ after_null_of s) × PartAt (after_null_at s) whole part
+module _ (s : List ℕ) (v : Result Reading Refusal) (is : v ≡ read_of s) (p : List ℕ) (whole part : ℕ × ℕ) where
+  pub part_accepted : (r : Reading) → v ≡ Ok r → (p ≡ drop (20 + 4 * r.null) s) × PartAt (start_after r.null s) whole part → (p ≡ after_null_of s) × PartAt (after_null_at s) whole part
   unfolding after_null_of after_null_at
   part_accepted r e h = rw (← is, e) h
 
-  pub part_refused : (why : Refusal) → v ≡ Refused why → (p ≡ drop (length s) s) × PartAt (min (length s) (length s)) whole part → (p ≡ after_null_of s) × PartAt (after_null_at s) whole part
+  pub part_refused : (why : Refusal) → v ≡ Err why → (p ≡ drop (length s) s) × PartAt (min (length s) (length s)) whole part → (p ≡ after_null_of s) × PartAt (after_null_at s) whole part
   unfolding after_null_of after_null_at
   part_refused why e h = rw (← is, e) (h.0 ∙ drop-length s, (h.1.0, omega (arith, h.1.1)))
 
@@ -37,5 +36,5 @@ pub one_place : (at : ℕ) (whole part part' : ℕ × ℕ) → PartAt at whole p
 one_place at whole part part' p q = λ i. ((p.0 ∙ sym q.0) i, (p.1 ∙ sym q.1) i)
 
 -- the elements after the Null are those of the part
-pub part_elements : (s : List ℕ) (r : Reading) → read_of s ≡ Accepted r → after_null (map_of s).elements ≡ listed (element_at s) (r.null + 1) (r.n - (r.null + 1))
+pub part_elements : (s : List ℕ) (r : Reading) → read_of s ≡ Ok r → after_null (map_of s).elements ≡ listed (element_at s) (r.null + 1) (r.n - (r.null + 1))
 part_elements s r e = let a = accepted s r e in rw a.elements (after_null_lem (element_at s) r.n r.null r.length a.frame)

@@ -1,5 +1,5 @@
 -- The ways through the reader's functions: one law each, about the definitions only.
-use mathlib.Core.Path.{◌≡◌, refl, sym, ◌∙◌}
+use mathlib.Core.Path.{◌≡◌, refl, ◌∙◌}
 use mathlib.Core.Bool.{Bool, true, false, cond, not, ◌||◌}
 use mathlib.Core.List.{List}
 use Prim.Native.Nat.{ℕ, zero, suc, ◌+◌, ◌-◌, ◌*◌, ◌/◌, ◌≤◌, ◌<◌}
@@ -12,27 +12,27 @@ pub use Rattle.slots.proofs.Spans.{said, said_not}
 use Rattle.rules.proofs.Ways.{fault_closed, advanced_after}
 use Rattle.rules.specs.declared.element.Element.{Element}
 use Rattle.rules.specs.declared.rules.Progress.{Progress}
-use Rattle.rules.specs.declared.rules.Walked.{Walked}
-use Rattle.rules.specs.declared.rules.Walked.TheVariants.{Whole, Fault}
+use Rattle.std.specs.Prelude.{Result, Ok, Err}
+use Rattle.rules.specs.declared.rules.Whole.{Whole}
+use Rattle.rules.specs.declared.refusal.Reason.{Reason}
+use Rattle.rules.specs.declared.refusal.Reason.TheVariants.{Short, Count, Length, Backoff}
 use Rattle.message.specs.Element.{element_in, element_at}
 use Rattle.rules.specs.Backoffs.{bad_backoffs}
 use Rattle.message.specs.Fields.{fields_of, count_of}
-use Rattle.rules.specs.Refusals.{refusal}
+use Rattle.rules.specs.Refusals.{refusal, unless}
 use Rattle.rules.specs.Rules.{fault_of, nothing_yet, advanced, ended_at, walked, standing_fault}
 use Rattle.message.specs.Scan.{checked_by}
 use Rattle.message.specs.Lists.{listed}
-use Rattle.message.specs.Reading.{header_fault, verdict_of, read_of}
-use Rattle.message.specs.declared.reading.Checked.TheVariants as checked
+use Rattle.message.specs.Reading.{header_fault, reading_of, read_of}
 use Rattle.rules.specs.declared.refusal.Refusal.{Refusal}
-use Rattle.message.specs.declared.reading.Verdict.TheVariants.{Refused}
 
 module _ (s : List ℕ) where
-  pub header_1 : length s < 16 → 1 ≡ header_fault s
+  pub header_1 : length s < 16 → Err Short ≡ header_fault s
   unfolding header_fault
   header_1 h = simp (lt-ltb (length s) 16 h)
 
   module _ (long : 16 ≤ length s) (n : ℕ) (is : n ≡ get_or s 2 0) where
-    pub header_none : n ≡ 0 → 2 ≡ header_fault s
+    pub header_none : n ≡ 0 → Err Count ≡ header_fault s
     unfolding header_fault
     header_none h = simp (le-ltb (length s) 16 long, eq-eqb (get_or s 2 0) 0 (omega arith))
 
@@ -40,7 +40,7 @@ module _ (s : List ℕ) where
       some' : eqb (get_or s 2 0) 0 ≡ false
       some' = ne_eqb (get_or s 2 0) 0 (λ e. some (is ∙ e))
 
-      pub header_many : 240 < n → 2 ≡ header_fault s
+      pub header_many : 240 < n → Err Count ≡ header_fault s
       unfolding header_fault
       header_many h = simp (le-ltb (length s) 16 long, some', lt-ltb 240 (get_or s 2 0) (omega arith))
 
@@ -48,7 +48,7 @@ module _ (s : List ℕ) where
         few' : ltb 240 (get_or s 2 0) ≡ false
         few' = le-ltb 240 (get_or s 2 0) (omega arith)
 
-        pub header_3 : (length s ≡ 16 + 4 * n → ⊥) → 3 ≡ header_fault s
+        pub header_3 : (length s ≡ 16 + 4 * n → ⊥) → Err Length ≡ header_fault s
         unfolding header_fault
         header_3 h = simp (le-ltb (length s) 16 long, some', few', ne_eqb (length s) (16 + 4 * get_or s 2 0) (λ e. h (omega arith)))
 
@@ -56,11 +56,11 @@ module _ (s : List ℕ) where
           fits' : eqb (length s) (16 + 4 * get_or s 2 0) ≡ true
           fits' = eq-eqb (length s) (16 + 4 * get_or s 2 0) (omega arith)
 
-          pub header_4 : bad_backoffs (fields_of s) ≡ true → 4 ≡ header_fault s
+          pub header_4 : bad_backoffs (fields_of s) ≡ true → Err Backoff ≡ header_fault s
           unfolding header_fault
           header_4 h = rw (le-ltb (length s) 16 long, some', few', fits', h) refl
 
-          pub header_good : bad_backoffs (fields_of s) ≡ false → 0 ≡ header_fault s
+          pub header_good : bad_backoffs (fields_of s) ≡ false → Ok tt ≡ header_fault s
           unfolding header_fault
           header_good h = rw (le-ltb (length s) 16 long, some', few', fits', h) refl
 
@@ -80,10 +80,10 @@ module _ (s : List ℕ) (i : ℕ) where
   unfolding element_at
   element_there h = simp (le-leb (20 + 4 * i) (length s) h)
 
--- a cascade of refusals that ends in 0 has passed its first test
-pub passed : (b : Bool) (n x : ℕ) → cond b (suc n) x ≡ 0 → (b ≡ false) × (x ≡ 0)
-passed true n x e = absurd (omega arith)
-passed false n x e = (refl, e)
+-- a cascade of refusals that ends well has passed its first test
+pub passed : (b : Bool) (why : Reason) (x : Result Unit Reason) → cond b (Err why) x ≡ Ok tt → (b ≡ false) × (x ≡ Ok tt)
+passed true why x e = absurd (let z : ◌≡◌ {A = ℕ} 0 1 = cc in omega arith)
+passed false why x e = (refl, e)
 
 pub or_none : (a b : Bool) → (a || b) ≡ false → (a ≡ false) × (b ≡ false)
 or_none true b e = let z : ◌≡◌ {A = ℕ} 0 1 = cc in absurd (omega arith)
@@ -96,13 +96,13 @@ pub record Sound (s : List ℕ) : Type 0 where
   pub fits : length s ≡ 16 + 4 * count_of s
   pub backoffs : bad_backoffs (fields_of s) ≡ false
 
-pub header_sound : (s : List ℕ) → header_fault s ≡ 0 → Sound s
+pub header_sound : (s : List ℕ) → header_fault s ≡ Ok tt → Sound s
 unfolding header_fault
 header_sound s e =
-    let one = passed (ltb (length s) 16) 0 _ e in
-    let two = passed (eqb (count_of s) 0 || ltb 240 (count_of s)) 1 _ one.1 in
-    let three = passed (not (eqb (length s) (16 + 4 * count_of s))) 2 _ two.1 in
-    let four = passed (bad_backoffs (fields_of s)) 3 0 three.1 in
+    let one = passed (ltb (length s) 16) Short _ e in
+    let two = passed (eqb (count_of s) 0 || ltb 240 (count_of s)) Count _ one.1 in
+    let three = passed (not (eqb (length s) (16 + 4 * count_of s))) Length _ two.1 in
+    let four = passed (bad_backoffs (fields_of s)) Backoff (Ok tt) three.1 in
     let counts = or_none (eqb (count_of s) 0) (ltb 240 (count_of s)) two.0 in
     record {
       some = omega (arith, pos (count_of s) (eqb-false (count_of s) 0 counts.0));
@@ -116,50 +116,47 @@ header_sound s e =
     pos (suc n) h = omega arith
 
 -- what is left of a walk gives the answer of the whole; el says what stands at each number
-module _ (el : ℕ → Element) (n : ℕ) (whole : Walked) (i : ℕ) (p : Progress) where
+module _ (el : ℕ → Element) (n : ℕ) (whole : Result Whole Refusal) (i : ℕ) (p : Progress) where
   pub walk_begins : i ≡ 0 → p ≡ nothing_yet → walked i p (listed el i (n - i)) ≡ walked 0 nothing_yet (listed el 0 n)
   walk_begins h k = rw (h, k, sub-zero n) refl
 
-  pub walk_end : (r : Walked) → i ≤ n → n ≤ i → walked i p (listed el i (n - i)) ≡ whole → r ≡ ended_at i p → r ≡ whole
+  pub walk_end : (r : Result Whole Refusal) → i ≤ n → n ≤ i → walked i p (listed el i (n - i)) ≡ whole → r ≡ ended_at n p → r ≡ whole
   unfolding walked listed
-  walk_end r h k w e = let none : n - i ≡ 0 = omega arith in e ∙ (rw none at w)
+  walk_end r h k w e = let none : n - i ≡ 0 = omega arith in let all : i ≡ n = omega arith in e ∙ (rw all at (rw none at w))
 
   module _ (more : i < n) (left : walked i p (listed el i (n - i)) ≡ whole) (e : Element) (is : e ≡ el i) where
-    next : cond (eqb (fault_of p e) 0) (walked (i + 1) (advanced p e i) (listed el (i + 1) (n - (i + 1)))) (Fault (refusal (fault_of p e) i)) ≡ whole
+    next : unless (fault_of p e) i (walked (i + 1) (advanced p e i) (listed el (i + 1) (n - (i + 1)))) ≡ whole
     unfolding walked listed
     next = let one : n - i ≡ suc (n - (i + 1)) = omega arith in rw is (rw one at left)
 
-    pub walk_fault : (f : ℕ) → f ≡ fault_of p e → (f ≡ 0 → ⊥) → Fault (record { number = f; element = i }) ≡ whole
-    walk_fault f h k = rw (ne_eqb (fault_of p e) 0 (λ z. k (h ∙ z)), ← h) at next
+    pub walk_fault : (f : Result Unit Reason) (why : Reason) → f ≡ fault_of p e → f ≡ Err why → Err (refusal why i) ≡ whole
+    walk_fault f why h k = rw (← h, k) at next
 
-    pub walk_next : (f : ℕ) (q : Progress) → f ≡ fault_of p e → f ≡ 0 → q ≡ advanced p e i → walked (i + 1) q (listed el (i + 1) (n - (i + 1))) ≡ whole
-    walk_next f q h k g = rw (eq-eqb (fault_of p e) 0 (sym h ∙ k), ← g) at next
+    pub walk_next : (f : Result Unit Reason) (q : Progress) → f ≡ fault_of p e → f ≡ Ok tt → q ≡ advanced p e i → walked (i + 1) q (listed el (i + 1) (n - (i + 1))) ≡ whole
+    walk_next f q h k g = rw (← h, k, ← g) at next
 
     -- after the Null
-    module _ (c : p.closed ≡ true) (g : p.granting ≡ false) (f : ℕ) (h : f ≡ standing_fault p e) where
-      pub rest_fault : (f ≡ 0 → ⊥) → Fault (record { number = f; element = i }) ≡ whole
-      rest_fault k = walk_fault f (fault_closed p e f h c g) k
+    module _ (c : p.closed ≡ true) (g : p.granting ≡ false) (f : Result Unit Reason) (h : f ≡ standing_fault p e) where
+      pub rest_fault : (why : Reason) → f ≡ Err why → Err (refusal why i) ≡ whole
+      rest_fault why k = walk_fault f why (fault_closed p e f h c g) k
 
-      pub rest_next : f ≡ 0 → walked (i + 1) p (listed el (i + 1) (n - (i + 1))) ≡ whole
+      pub rest_next : f ≡ Ok tt → walked (i + 1) p (listed el (i + 1) (n - (i + 1))) ≡ whole
       rest_next k = walk_next f p (fault_closed p e f h c g) k (advanced_after p e i c)
 
 module _ (s : List ℕ) where
-  pub read_refused : (f : ℕ) → f ≡ header_fault s → (f ≡ 0 → ⊥) → Refused (record { number = f; element = 0 }) ≡ read_of s
+  pub check_refused : (f : Result Unit Reason) (why : Reason) → f ≡ header_fault s → f ≡ Err why → Err (refusal why 0) ≡ checked_by (read_of s)
   unfolding read_of
-  read_refused f h k = rw (ne_eqb (header_fault s) 0 (λ z. k (h ∙ z)), ← h) refl
+  check_refused f why h k = rw (← h, k) refl
 
-  pub check_refused : (f : ℕ) → f ≡ header_fault s → (f ≡ 0 → ⊥) → checked.Fault f 0 ≡ checked_by (read_of s)
-  check_refused f h k = rw (← read_refused f h k) refl
-
-  module _ (n : ℕ) (w : Walked) (h : header_fault s ≡ 0) (is : n ≡ count_of s) (e : w ≡ walked 0 nothing_yet (listed (element_in s) 0 n)) where
-    read_walked : read_of s ≡ verdict_of (fields_of s) n w
+  module _ (n : ℕ) (w : Result Whole Refusal) (h : header_fault s ≡ Ok tt) (is : n ≡ count_of s) (e : w ≡ walked 0 nothing_yet (listed (element_in s) 0 n)) where
+    read_walked : read_of s ≡ reading_of (fields_of s) n w
     unfolding read_of
     read_walked = rw (h, e, is) refl
 
-    pub check_whole : (k l : ℕ) → w ≡ Whole k l → checked.Whole k n l ≡ checked_by (read_of s)
-    check_whole k l v = rw (read_walked, v) refl
+    pub check_whole : (v : Whole) → w ≡ Ok v → Ok (record { n = n; whole = v }) ≡ checked_by (read_of s)
+    check_whole v k = rw (read_walked, k) refl
 
-    pub check_fault : (why : Refusal) → w ≡ Fault why → checked.Fault why.number why.element ≡ checked_by (read_of s)
-    check_fault why v = rw (read_walked, v) refl
+    pub check_fault : (why : Refusal) → w ≡ Err why → Err why ≡ checked_by (read_of s)
+    check_fault why k = rw (read_walked, k) refl
 
 pub ruleset header_ways = (header_1, header_none, header_many, header_3, header_4, header_good, said, said_not)

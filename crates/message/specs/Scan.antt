@@ -1,16 +1,15 @@
 -- How the code goes through a message, for what private functions promise: no public promise cites these.
-use Rattle.std.specs.Prelude.{ℕ, ◌-◌, Bool, cond, ◌&&◌, eqb}
+use Rattle.std.specs.Prelude.{ℕ, ◌-◌, Bool, cond, ◌&&◌, eqb, Result, Ok, Err}
 use Rattle.rules.specs.declared.element.Element.{Element}
-use Rattle.message.specs.declared.reading.Verdict.{Verdict}
-use Rattle.message.specs.declared.reading.Verdict.TheVariants.{Accepted, Refused}
+use Rattle.rules.specs.declared.refusal.Refusal.{Refusal}
+use Rattle.message.specs.declared.reading.Reading.{Reading}
 use Rattle.message.specs.declared.reading.Checked.{Checked}
-use Rattle.message.specs.declared.reading.Checked.TheVariants as checked
 use Rattle.rules.specs.Rules.{granting}
 
--- what a verdict says beyond the header's fields
-abbrev pub checked_by : Verdict → Checked
-checked_by (Accepted r) = checked.Whole r.null r.n r.length
-checked_by (Refused why) = checked.Fault why.number why.element
+-- what a reading says beyond the header's fields
+abbrev pub checked_by : Result Reading Refusal → Result Checked Refusal
+checked_by (Ok r) = Ok (record { n = r.n; whole = record { null = r.null; length = r.length } })
+checked_by (Err why) = Err why
 
 unfoldable pub grants_sid : Element → ℕ → Bool
 grants_sid e sid = granting e.iuc && eqb e.sid sid

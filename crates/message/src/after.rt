@@ -2,7 +2,7 @@
 ghost use Rattle.std.specs.Prelude.{◌≡◌, ◌+◌, ◌*◌, min, length, drop};
 ghost use Rattle.message.specs.After.{after_null_of, start_after, after_null_at, PartAt};
 
-use crate::reading::{Reading, Verdict, read};
+use crate::reading::{Reading, read};
 
 // The bytes from a place on; none where they end before it.
 fn part_from(bytes: &[u8], at: usize) -> &[u8]
@@ -29,7 +29,7 @@ pub fn after_null(bytes: &[u8]) -> &[u8]
     ensures { (result.now ≡ after_null_of bytes.now) × PartAt (after_null_at bytes.now) bytes.entry.ref_ptr result.ref_ptr }
 {
     match read(bytes) {
-        Verdict::Accepted(reading) => reading.after_null(bytes),
-        Verdict::Refused(_) => part_from(bytes, bytes.len()),
+        Ok(reading) => reading.after_null(bytes),
+        Err(_) => part_from(bytes, bytes.len()),
     }
 }

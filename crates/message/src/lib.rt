@@ -10,4 +10,4 @@ pub mod reading;
 pub use after::after_null;
 pub use element::element_at;
 pub use grants::{Granted, grant};
-pub use reading::{Reading, Verdict, read};
+pub use reading::{Reading, read};

@@ -9,10 +9,10 @@ ghost use Rattle.message.specs.Scan.{checked_by};
 use crate::element::{element_in, wide};
 use crate::fields::{bad_backoffs_in, fields_of};
 use rules::{
-    Fields, Progress, Refusal, Walked, advance, ended, fault, nothing_yet, standing_fault,
+    Fields, Progress, Reason, Refusal, Whole, advance, ended, fault, nothing_yet, standing_fault,
 };
 
-#[derive(Clone, Copy)]
+#[derive(Clone, Copy, PartialEq, Eq)]
 pub struct Reading {
     pub fields: Fields,
     pub n: u32,
@@ -20,128 +20,95 @@ pub struct Reading {
     pub length: u32,
 }
 
-#[derive(Clone, Copy)]
-pub enum Verdict {
-    Accepted(Reading),
-    Refused(Refusal),
-}
-
 impl Reading {
     pub const MOST_ELEMENTS: u32 = 240;
 }
 
-// The message's own refusals before any element, or 0.
-fn header_fault(bytes: &[u8]) -> u32
+// The message's own refusals before any element.
+fn header_fault(bytes: &[u8]) -> Result<(), Reason>
     ensures { result ≡ header_fault bytes.now }
 {
     if bytes.len() < 16 {
-        return Refusal::SHORT;
+        return Err(Reason::Short);
     }
     let n = wide(bytes[2]);
     if n == 0 {
-        return Refusal::COUNT;
+        return Err(Reason::Count);
     }
     if Reading::MOST_ELEMENTS < n {
-        return Refusal::COUNT;
+        return Err(Reason::Count);
     }
     if bytes.len() != 16 + 4 * (n as usize) {
-        return Refusal::LENGTH;
+        return Err(Reason::Length);
     }
     if bad_backoffs_in(bytes) {
-        return Refusal::BACKOFF;
+        return Err(Reason::Backoff);
     }
-    0
+    Ok(())
 }
 
-// The elements in order, up to the first that is at fault. At the Null the rest has a loop of its
-// own, with fewer rules to look at.
-fn walk(bytes: &[u8], n: u32) -> Walked
+// The elements in order, up to the first that is at fault: a loop that yields it by break, as document
+// 01 has it ("Forms by place"). At the Null the rest has a loop of its own, with fewer rules to look at.
+fn walk(bytes: &[u8], n: u32) -> Result<Whole, Refusal>
     requires { 16 + 4 * n ≤ length bytes.now }
     ensures { result ≡ walked 0 nothing_yet (listed (element_in bytes.now) 0 n) }
 {
     let mut p = nothing_yet();
     let mut i: u32 = 0;
-    let out = loop {
+    loop {
         if n <= i {
-            break ended(p, i);
+            break ended(p, n);
         }
         let e = element_in(bytes, i as usize);
-        let f = fault(p, e);
-        if f != 0 {
-            break Walked::Fault(Refusal {
-                number: f,
-                element: i,
-            });
+        if let Err(reason) = fault(p, e) {
+            break Err(Refusal { reason, element: i });
         }
         p = advance(p, e, i);
         i += 1;
         if p.closed {
             break walk_rest(bytes, n, p, i);
         }
-    };
-    out
+    }
 }
 
-fn walk_rest(bytes: &[u8], n: u32, p: Progress, from: u32) -> Walked
+fn walk_rest(bytes: &[u8], n: u32, p: Progress, from: u32) -> Result<Whole, Refusal>
     requires { (p.closed ≡ true) × ((p.granting ≡ false) × ((from ≤ n) × (16 + 4 * n ≤ length bytes.now))) }
     ensures { result ≡ walked from p (listed (element_in bytes.now) from (n - from)) }
 {
-    let mut i = from;
-    let out = loop {
-        if n <= i {
-            break ended(p, i);
-        }
+    for i in from..n {
         let e = element_in(bytes, i as usize);
-        let f = standing_fault(p, e);
-        if f != 0 {
-            break Walked::Fault(Refusal {
-                number: f,
-                element: i,
-            });
+        if let Err(reason) = standing_fault(p, e) {
+            return Err(Refusal { reason, element: i });
         }
-        i += 1;
-    };
-    out
+    }
+    ended(p, n)
 }
 
 // What the checks of a message come to, and the bytes alone don't tell. `read` and `grant` both stand
 // on it: the checks are compiled once, and what is left of `read` is short enough to be inlined.
-#[derive(Clone, Copy)]
-pub(crate) enum Checked {
-    Whole { null: u32, n: u32, length: u32 },
-    Fault { number: u32, element: u32 },
+#[derive(Clone, Copy, PartialEq, Eq)]
+pub(crate) struct Checked {
+    pub n: u32,
+    pub whole: Whole,
 }
 
-pub(crate) fn check(bytes: &[u8]) -> Checked
+pub(crate) fn check(bytes: &[u8]) -> Result<Checked, Refusal>
     ensures { result ≡ checked_by (read_of bytes.now) }
 {
-    let f = header_fault(bytes);
-    if f != 0 {
-        return Checked::Fault {
-            number: f,
-            element: 0,
-        };
-    }
+    header_fault(bytes)?;
     let n = wide(bytes[2]);
-    match walk(bytes, n) {
-        Walked::Whole { null, length } => Checked::Whole { null, n, length },
-        Walked::Fault(why) => Checked::Fault {
-            number: why.number,
-            element: why.element,
-        },
-    }
+    let whole = walk(bytes, n)?;
+    Ok(Checked { n, whole })
 }
 
-pub fn read(bytes: &[u8]) -> Verdict
+pub fn read(bytes: &[u8]) -> Result<Reading, Refusal>
     ensures { result ≡ read_of bytes.now }
 {
-    match check(bytes) {
-        Checked::Whole { null, n, length } => Verdict::Accepted(Reading {
-            fields: fields_of(bytes),
-            n,
-            null,
-            length,
-        }),
-        Checked::Fault { number, element } => Verdict::Refused(Refusal { number, element }),
-    }
+    let checked = check(bytes)?;
+    Ok(Reading {
+        fields: fields_of(bytes),
+        n: checked.n,
+        null: checked.whole.null,
+        length: checked.whole.length,
+    })
 }

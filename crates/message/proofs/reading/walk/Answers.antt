@@ -1,5 +1,4 @@
-use borrow.Author.Rules.{rules}
-use mathlib.Core.Path.{refl, ◌∙◌}
+use Rattle.std.proofs.Common.{rules, refl, ◌∙◌}
 use Rattle.rules.specs.Rules.{walked, nothing_yet}
 use Rattle.message.specs.Lists.{listed}
 use Rattle.message.specs.Element.{element_in}
@@ -10,8 +9,8 @@ use Rattle.message.proofs.reading.walk.Goals as goal
 pub loop-i-init : goal.loop-i-init
 loop-i-init c = (search rules, (search rules, walk_begins _ _ (walked 0 nothing_yet (listed (element_in c.args.bytes.now) 0 c.args.n)) _ _ refl c.nothing_yet-p.ensures))
 
-pub walk_rest-out-requires : goal.walk_rest-out-requires
-walk_rest-out-requires c = (search rules, (advanced_closed _ _ _ _ c.loop-i.invariant.0 c.advance-p.ensures c.if-p.true, (search rules, search rules)))
+pub walk_rest-requires : goal.walk_rest-requires
+walk_rest-requires c = (search rules, (advanced_closed _ _ _ _ c.loop-i.invariant.0 c.advance-p.ensures c.if-p.true, (search rules, search rules)))
 
 pub loop-i-preserved : goal.loop-i-preserved
 loop-i-preserved c = (search rules, (search rules, search walk_next))
@@ -19,8 +18,8 @@ loop-i-preserved c = (search rules, (search rules, search walk_next))
 pub returns-then-n-i : goal.returns-then-n-i
 returns-then-n-i c = search walk_end
 
-pub returns-then-f-ne0 : goal.returns-then-f-ne0
-returns-then-f-ne0 c = search walk_fault
+pub returns-in-Err : goal.returns-in-Err
+returns-in-Err c = search walk_fault
 
 pub returns-then-p : goal.returns-then-p
-returns-then-p c = c.walk_rest-out.ensures ∙ walk_next _ _ _ _ _ c.if-n-i.false c.loop-i.invariant.1.1 _ c.element_in-e.ensures _ _ c.fault-f.ensures c.if-f-ne0.false c.advance-p.ensures
+returns-then-p c = c.walk_rest.ensures ∙ walk_next _ _ _ _ _ c.if-n-i.false c.loop-i.invariant.1.1 _ c.element_in-e.ensures _ _ c.fault.ensures c.in_default.is c.advance-p.ensures

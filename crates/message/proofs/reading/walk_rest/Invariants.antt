@@ -1,5 +1,4 @@
-use mathlib.Core.Path.{◌≡◌}
-use Prim.Native.Nat.{◌-◌, ◌≤◌}
+use Rattle.std.proofs.Common.{◌≡◌, ◌-◌, ◌≤◌}
 use Rattle.rules.specs.Rules.{walked}
 use Rattle.message.specs.Lists.{listed}
 use Rattle.message.specs.Element.{element_in}
@@ -7,6 +6,3 @@ use Rattle.message.proofs.reading.walk_rest.Given as goal
 
 abbrev pub invariant-loop-i : goal.invariant-loop-i
 invariant-loop-i l = (l.i ≤ l.n) × (walked l.i l.p (listed (element_in l.bytes) l.i (l.n - l.i)) ≡ walked l.from l.p (listed (element_in l.bytes) l.from (l.n - l.from)))
-
-abbrev pub decreases-loop-i : goal.decreases-loop-i
-decreases-loop-i l = l.n - l.i
