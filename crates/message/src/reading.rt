@@ -6,7 +6,7 @@ ghost use Rattle.message.specs.Element.{element_in};
 ghost use Rattle.message.specs.Reading.{header_fault, read_of};
 ghost use Rattle.message.specs.Scan.{checked_by};
 
-use crate::element::{element_in, wide};
+use crate::element::element_in;
 use crate::fields::{bad_backoffs_in, fields_of};
 use rules::{
     Fields, Progress, Reason, Refusal, Whole, advance, ended, fault, nothing_yet, standing_fault,
@@ -31,7 +31,7 @@ fn header_fault(bytes: &[u8]) -> Result<(), Reason>
     if bytes.len() < 16 {
         return Err(Reason::Short);
     }
-    let n = wide(bytes[2]);
+    let n = u32::from(bytes[2]);
     if n == 0 {
         return Err(Reason::Count);
     }
@@ -96,7 +96,7 @@ pub(crate) fn check(bytes: &[u8]) -> Result<Checked, Refusal>
     ensures { result ≡ checked_by (read_of bytes.now) }
 {
     header_fault(bytes)?;
-    let n = wide(bytes[2]);
+    let n = u32::from(bytes[2]);
     let whole = walk(bytes, n)?;
     Ok(Checked { n, whole })
 }
