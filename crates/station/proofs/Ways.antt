@@ -3,15 +3,18 @@ use mathlib.Core.Path.{◌≡◌, refl, sym, ◌∙◌}
 use mathlib.Core.Bool.{Bool, true, false, not, ◌||◌}
 use Prim.Native.Nat.{ℕ}
 use lib.Dec.{ltb}
-use borrow.Author.Tests.{ne_eqb, not-true}
+use borrow.Author.Tests.{not-true}
+use Rattle.std.specs.Prelude.{Result, Ok, Err}
+use Rattle.rules.specs.declared.refusal.Reason.{Reason}
+use Rattle.rules.specs.declared.refusal.Reason.TheVariants.{Sid, Size, Busy}
+use Rattle.rules.specs.declared.refusal.Refusal.{Refusal}
+use Rattle.rules.specs.Refusals.{refusal}
 use Rattle.slots.specs.declared.time.MiniSlot.{MiniSlot}
 use Rattle.rules.specs.Sids.{unicast}
 use Rattle.rules.proofs.Ways.{said, said_not}
 use Rattle.station.specs.declared.record.Phase.{Phase}
 use Rattle.station.specs.declared.record.Phase.TheVariants.{Idle, Wanting, Deferring, Waiting}
 use Rattle.station.specs.declared.record.Station.{Station}
-use Rattle.station.specs.declared.record.Offered.TheVariants as offered
-use Rattle.station.specs.declared.record.SetUp.TheVariants as set_up
 use Rattle.station.specs.Records.{bad_size, bad_r, bad_phase, record_fault}
 use Rattle.station.specs.Offering.{fresh, set_up_of, idle, offer_fault, wanting, offer_of}
 
@@ -70,58 +73,58 @@ module _ (p : Phase) where
       go (Waiting exponent retries time size) n = refl
 
 module _ (st : Station) where
-  pub record_6 : not (unicast st.sid) ≡ true → 6 ≡ record_fault st
+  pub record_6 : not (unicast st.sid) ≡ true → Err Sid ≡ record_fault st
   unfolding record_fault
   record_6 a = rw a refl
 
-  pub record_r : not (unicast st.sid) ≡ false → bad_r st.r ≡ true → 17 ≡ record_fault st
+  pub record_r : not (unicast st.sid) ≡ false → bad_r st.r ≡ true → Err Size ≡ record_fault st
   unfolding record_fault
   record_r a b = rw (a, b) refl
 
-  pub record_phase : not (unicast st.sid) ≡ false → bad_r st.r ≡ false → bad_phase st.phase ≡ true → 17 ≡ record_fault st
+  pub record_phase : not (unicast st.sid) ≡ false → bad_r st.r ≡ false → bad_phase st.phase ≡ true → Err Size ≡ record_fault st
   unfolding record_fault
   record_phase a b c = rw (a, b, c) refl
 
-  pub record_good : not (unicast st.sid) ≡ false → bad_r st.r ≡ false → bad_phase st.phase ≡ false → 0 ≡ record_fault st
+  pub record_good : not (unicast st.sid) ≡ false → bad_r st.r ≡ false → bad_phase st.phase ≡ false → Ok tt ≡ record_fault st
   unfolding record_fault
   record_good a b c = rw (a, b, c) refl
 
-  module _ (size f : ℕ) (is : f ≡ record_fault st) where
-    pub offer_record : (f ≡ 0 → ⊥) → f ≡ offer_fault st size
+  module _ (size : ℕ) (f : Result Unit Reason) (is : f ≡ record_fault st) where
+    pub offer_record : (why : Reason) → f ≡ Err why → Err why ≡ offer_fault st size
     unfolding offer_fault
-    offer_record h = rw (ne_eqb (record_fault st) 0 (λ z. h (is ∙ z))) is
+    offer_record why h = rw (sym is ∙ h) refl
 
-    pub offer_16 : f ≡ 0 → not (idle st.phase) ≡ true → 16 ≡ offer_fault st size
+    pub offer_16 : f ≡ Ok tt → not (idle st.phase) ≡ true → Err Busy ≡ offer_fault st size
     unfolding offer_fault
     offer_16 h a = rw (sym is ∙ h, a) refl
 
-    pub offer_17 : f ≡ 0 → not (idle st.phase) ≡ false → bad_size size ≡ true → 17 ≡ offer_fault st size
+    pub offer_17 : f ≡ Ok tt → not (idle st.phase) ≡ false → bad_size size ≡ true → Err Size ≡ offer_fault st size
     unfolding offer_fault
     offer_17 h a b = rw (sym is ∙ h, a, b) refl
 
-    pub offer_good : f ≡ 0 → not (idle st.phase) ≡ false → bad_size size ≡ false → 0 ≡ offer_fault st size
+    pub offer_good : f ≡ Ok tt → not (idle st.phase) ≡ false → bad_size size ≡ false → Ok tt ≡ offer_fault st size
     unfolding offer_fault
     offer_good h a b = rw (sym is ∙ h, a, b) refl
 
-  module _ (size f : ℕ) (is : f ≡ offer_fault st size) where
-    pub offer_refused : (f ≡ 0 → ⊥) → record { station = st; answer = offered.Refused (record { number = f; element = 0 }) } ≡ offer_of st size
+  module _ (size : ℕ) (f : Result Unit Reason) (is : f ≡ offer_fault st size) where
+    pub offer_refused : (why : Reason) (r : Refusal) → f ≡ Err why → r ≡ refusal why 0 → record { station = st; answer = Err r } ≡ offer_of st size
     unfolding offer_of
-    offer_refused h = rw (ne_eqb (offer_fault st size) 0 (λ z. h (is ∙ z)), ← is) refl
+    offer_refused why r h k = rw (k, ← is, h) refl
 
-    pub offer_taken : f ≡ 0 → record { station = wanting st size; answer = offered.Taken } ≡ offer_of st size
+    pub offer_taken : f ≡ Ok tt → record { station = wanting st size; answer = Ok tt } ≡ offer_of st size
     unfolding offer_of
     offer_taken h = rw (sym is ∙ h) refl
 
 module _ (sid channel count r : ℕ) where
-  pub set_up_6 : not (unicast sid) ≡ true → set_up.Refused (record { number = 6; element = 0 }) ≡ set_up_of sid channel count r
+  pub set_up_6 : (r' : Refusal) → not (unicast sid) ≡ true → r' ≡ refusal Sid 0 → Err r' ≡ set_up_of sid channel count r
   unfolding set_up_of
-  set_up_6 a = rw a refl
+  set_up_6 r' a e = rw (a, e) refl
 
-  pub set_up_17 : not (unicast sid) ≡ false → bad_r r ≡ true → set_up.Refused (record { number = 17; element = 0 }) ≡ set_up_of sid channel count r
+  pub set_up_17 : (r' : Refusal) → not (unicast sid) ≡ false → bad_r r ≡ true → r' ≡ refusal Size 0 → Err r' ≡ set_up_of sid channel count r
   unfolding set_up_of
-  set_up_17 a b = rw (a, b) refl
+  set_up_17 r' a b e = rw (a, b, e) refl
 
-  pub set_up_ready : not (unicast sid) ≡ false → bad_r r ≡ false → set_up.Ready (fresh sid channel count r) ≡ set_up_of sid channel count r
+  pub set_up_ready : not (unicast sid) ≡ false → bad_r r ≡ false → Ok (fresh sid channel count r) ≡ set_up_of sid channel count r
   unfolding set_up_of
   set_up_ready a b = rw (a, b) refl
 

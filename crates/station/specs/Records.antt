@@ -1,7 +1,8 @@
 -- Document 01, "The station": the record, and what is refused in it.
-use Rattle.std.specs.Prelude.{ℕ, Bool, false, cond, not, ◌||◌, ltb}
+use Rattle.std.specs.Prelude.{ℕ, Bool, false, cond, not, ◌||◌, ltb, Result, Ok, Err}
 use Rattle.rules.specs.Sids.{within, unicast}
-use Rattle.rules.specs.Refusals.{Sid, Size, number_of}
+use Rattle.rules.specs.declared.refusal.Reason.{Reason}
+use Rattle.rules.specs.declared.refusal.Reason.TheVariants.{Sid, Size}
 use Rattle.station.specs.declared.record.Phase.{Phase}
 use Rattle.station.specs.declared.record.Phase.TheVariants.{Idle, Wanting, Deferring, Waiting}
 use Rattle.station.specs.declared.record.Station.{Station}
@@ -22,8 +23,8 @@ bad_phase (Deferring exponent left retries size) = bad_size size || ltb 15 expon
 bad_phase (Waiting exponent retries time size) = bad_size size || ltb 15 exponent || ltb 16 retries
 
 -- "A station handed in is checked first (6, 17)"
-unfoldable pub record_fault : Station → ℕ
+unfoldable pub record_fault : Station → Result Unit Reason
 record_fault st =
-    cond (not (unicast st.sid)) (number_of Sid)
-    (cond (bad_r st.r) (number_of Size)
-    (cond (bad_phase st.phase) (number_of Size) 0))
+    cond (not (unicast st.sid)) (Err Sid)
+    (cond (bad_r st.r) (Err Size)
+    (cond (bad_phase st.phase) (Err Size) (Ok tt)))

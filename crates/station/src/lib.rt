@@ -4,4 +4,4 @@
 pub mod offering;
 pub mod record;
 
-pub use record::{Offered, Offering, Phase, Remembered, SetUp, Station, record_fault};
+pub use record::{Offering, Phase, Station, record_fault};

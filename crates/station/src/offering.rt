@@ -2,33 +2,25 @@
 ghost use Rattle.std.specs.Prelude.{◌≡◌, not};
 ghost use Rattle.station.specs.Offering.{set_up_of, idle, offer_fault, offer_of};
 
-use crate::record::{
-    Offered, Offering, Phase, Remembered, SetUp, Station, bad_r, bad_sid, bad_size, record_fault,
-};
-use rules::Refusal;
+use crate::record::{Offering, Phase, Station, bad_r, bad_sid, bad_size, record_fault};
+use rules::{Reason, Refusal};
 
 impl Station {
-    pub fn new(sid: u32, channel: u8, count: u8, r: u32) -> SetUp
+    pub fn new(sid: u32, channel: u8, count: u8, r: u32) -> Result<Station, Refusal>
         ensures { result ≡ set_up_of sid channel count r }
     {
         if bad_sid(sid) {
-            return SetUp::Refused(Refusal {
-                number: Refusal::SID,
-                element: 0,
-            });
+            return Err(Refusal::from(Reason::Sid));
         }
         if bad_r(r) {
-            return SetUp::Refused(Refusal {
-                number: Refusal::SIZE,
-                element: 0,
-            });
+            return Err(Refusal::from(Reason::Size));
         }
-        SetUp::Ready(Station {
+        Ok(Station {
             sid,
             channel,
             count,
             r,
-            end: Remembered::Nothing,
+            end: None,
             phase: Phase::Idle,
         })
     }
@@ -36,27 +28,18 @@ impl Station {
     pub fn offer(self, size: u32) -> Offering
         ensures { result ≡ offer_of self size }
     {
-        let f = offer_fault(self, size);
-        if f != 0 {
-            return Offering {
-                station: self,
-                answer: Offered::Refused(Refusal {
-                    number: f,
-                    element: 0,
-                }),
-            };
-        }
-        let end = self.end;
-        Offering {
-            station: Station {
-                sid: self.sid,
-                channel: self.channel,
-                count: self.count,
-                r: self.r,
-                end,
-                phase: Phase::Wanting { size },
+        match offer_fault(self, size) {
+            Ok(()) => Offering {
+                station: Station {
+                    phase: Phase::Wanting { size },
+                    ..self
+                },
+                answer: Ok(()),
             },
-            answer: Offered::Taken,
+            Err(reason) => Offering {
+                station: self,
+                answer: Err(Refusal::from(reason)),
+            },
         }
     }
 }
@@ -70,20 +53,16 @@ fn busy(phase: Phase) -> bool
     }
 }
 
-// Why an offer is refused, or 0.
-fn offer_fault(st: Station, size: u32) -> u32
+// Why an offer is refused.
+fn offer_fault(st: Station, size: u32) -> Result<(), Reason>
     ensures { result ≡ offer_fault st size }
 {
-    let f = record_fault(st);
-    if f != 0 {
-        return f;
-    }
-    let phase = st.phase;
-    if busy(phase) {
-        return Refusal::BUSY;
+    record_fault(st)?;
+    if busy(st.phase) {
+        return Err(Reason::Busy);
     }
     if bad_size(size) {
-        return Refusal::SIZE;
+        return Err(Reason::Size);
     }
-    0
+    Ok(())
 }

@@ -3,11 +3,11 @@ ghost use Rattle.std.specs.Prelude.{◌≡◌, not};
 ghost use Rattle.rules.specs.Sids.{unicast};
 ghost use Rattle.station.specs.Records.{bad_size, bad_r, bad_phase, record_fault};
 
-use rules::{Refusal, within};
+use rules::{Reason, Refusal, within};
 use slots::MiniSlot;
 
 // What becomes of the packet that was offered. `size` is the packet's, in mini-slots.
-#[derive(Clone, Copy)]
+#[derive(Clone, Copy, PartialEq, Eq)]
 pub enum Phase {
     Idle,
     Wanting {
@@ -27,39 +27,21 @@ pub enum Phase {
     },
 }
 
-// The end of the last MAP that was accepted, if there was one.
-#[derive(Clone, Copy)]
-pub enum Remembered {
-    Nothing,
-    End(MiniSlot),
-}
-
-#[derive(Clone, Copy)]
+// `end` is the end of the last MAP that was accepted, if there was one.
+#[derive(Clone, Copy, PartialEq, Eq)]
 pub struct Station {
     pub sid: u32,
     pub channel: u8,
     pub count: u8,
     pub r: u32,
-    pub end: Remembered,
+    pub end: Option<MiniSlot>,
     pub phase: Phase,
 }
 
-#[derive(Clone, Copy)]
-pub enum Offered {
-    Taken,
-    Refused(Refusal),
-}
-
-#[derive(Clone, Copy)]
+#[derive(Clone, Copy, PartialEq, Eq)]
 pub struct Offering {
     pub station: Station,
-    pub answer: Offered,
-}
-
-#[derive(Clone, Copy)]
-pub enum SetUp {
-    Ready(Station),
-    Refused(Refusal),
+    pub answer: Result<(), Refusal>,
 }
 
 impl Station {
@@ -117,7 +99,7 @@ fn bad_phase(phase: Phase) -> bool
         Phase::Waiting {
             exponent,
             retries,
-            time,
+            time: _,
             size,
         } => {
             bad_size(size)
@@ -127,19 +109,18 @@ fn bad_phase(phase: Phase) -> bool
     }
 }
 
-// Why a record handed in is refused, or 0.
-pub fn record_fault(st: Station) -> u32
+// Why a record handed in is refused.
+pub fn record_fault(st: Station) -> Result<(), Reason>
     ensures { result ≡ record_fault st }
 {
     if bad_sid(st.sid) {
-        return Refusal::SID;
+        return Err(Reason::Sid);
     }
     if bad_r(st.r) {
-        return Refusal::SIZE;
+        return Err(Reason::Size);
     }
-    let phase = st.phase;
-    if bad_phase(phase) {
-        return Refusal::SIZE;
+    if bad_phase(st.phase) {
+        return Err(Reason::Size);
     }
-    0
+    Ok(())
 }
