@@ -9,8 +9,7 @@ use station::Station;
 pub(crate) fn next_exponent(fields: Fields, exponent: u32) -> u32
     ensures { result ≡ next_exponent fields exponent }
 {
-    let data = fields.data;
-    let end = data.end as u32;
+    let end = fields.data.end as u32;
     if exponent < end {
         return exponent + 1;
     }

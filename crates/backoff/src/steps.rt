@@ -51,8 +51,7 @@ fn after_wanting(fields: Fields, draw: u16, phase: Phase) -> Phase
 {
     match phase {
         Phase::Wanting { size } => {
-            let data = fields.data;
-            let exponent = data.start as u32;
+            let exponent = fields.data.start as u32;
             Phase::Deferring {
                 exponent,
                 left: drawn(draw, exponent),
