@@ -15,11 +15,10 @@ use Rattle.station.specs.declared.record.Phase.TheVariants.{Idle, Wanting, Defer
 use Rattle.station.specs.declared.record.Station.{Station}
 use Rattle.backoff.specs.Backoffs.{first_exponent, next_exponent, drawn}
 use Rattle.backoff.specs.Steps.{lost, acknowledged, deferred}
-use Rattle.hearing.specs.declared.answer.Sent.{Sent}
-use Rattle.hearing.specs.declared.answer.Sent.TheVariants.{Nothing, At}
 use Rattle.hearing.specs.Opportunities.{own, contention}
 use Rattle.hearing.specs.Steps.{granted, passing, offered_own, sending, waiting_since, sent_by}
 use Rattle.hearing.specs.Hearing.{width, hear_fault, has_grant, has_pending, ready_phase, quiet_phase, phase_after, request_in, station_after, hearing}
+use Rattle.std.specs.Prelude.{Option, Some, None}
 
 -- two MAPs that say the same to a station
 pub record Alike (st : Station) (m n : Map) : Type 0 where
@@ -76,9 +75,9 @@ module _ (st : Station) (m n : Map) (a : Alike st m n) where
 
 -- What becomes of a phase where there is no grant. Silent: no request; and if the station waits, it waited before, with a pending or an Ack Time that is not later.
 -- Spoke: one request, in one of the MAP's opportunities, on which it now waits.
-pub data Outcome (w : ℕ) (pending : Bool) (ack : ℕ) (ts : List ℕ) (before after : Phase) (request : Sent) : Type 0 where
-  silent : request ≡ Nothing → ((exponent retries : ℕ) (time : MiniSlot) (size : ℕ) → after ≡ Waiting exponent retries time size → (before ≡ Waiting exponent retries time size) × ((pending ≡ true) ⊎ (earlier w time.0 ack ≡ false))) → Outcome w pending ack ts before after request
-  spoke : (exponent retries : ℕ) (time : MiniSlot) (size : ℕ) → after ≡ Waiting exponent retries time size → request ≡ At time → Memᴰ time.0 ts → Outcome w pending ack ts before after request
+pub data Outcome (w : ℕ) (pending : Bool) (ack : ℕ) (ts : List ℕ) (before after : Phase) (request : Option MiniSlot) : Type 0 where
+  silent : request ≡ None → ((exponent retries : ℕ) (time : MiniSlot) (size : ℕ) → after ≡ Waiting exponent retries time size → (before ≡ Waiting exponent retries time size) × ((pending ≡ true) ⊎ (earlier w time.0 ack ≡ false))) → Outcome w pending ack ts before after request
+  spoke : (exponent retries : ℕ) (time : MiniSlot) (size : ℕ) → after ≡ Waiting exponent retries time size → request ≡ Some time → Memᴰ time.0 ts → Outcome w pending ack ts before after request
 
 Passed : (cs : List ℕ) (exponent left retries size : ℕ) → Type 0
 Passed cs exponent left retries size = ((k : ℕ) × (passing cs exponent left retries size ≡ Deferring exponent k retries size)) ⊎ ((t : ℕ) × Memᴰ t cs × (passing cs exponent left retries size ≡ Waiting exponent retries (record { 0 = t }) size))
@@ -94,10 +93,10 @@ passed_either (t ∷ ts) exponent (suc left) retries size = go (passed_either ts
     go (inr (x, m, e)) = inr (x, Memᴰ.tail m, e)
 
 module _ (w : ℕ) (pending : Bool) (ack : ℕ) (os cs : List ℕ) (before : Phase) where
-  idle : Outcome w pending ack (os ++ cs) before Idle Nothing
+  idle : Outcome w pending ack (os ++ cs) before Idle None
   idle = silent refl (λ exponent retries time size e. let z : ◌≡◌ {A = ℕ} 0 1 = cc in absurd (omega arith))
 
-  still : (exponent retries : ℕ) (time : MiniSlot) (size : ℕ) → before ≡ Waiting exponent retries time size → (pending ≡ true) ⊎ (earlier w time.0 ack ≡ false) → Outcome w pending ack (os ++ cs) before (Waiting exponent retries time size) Nothing
+  still : (exponent retries : ℕ) (time : MiniSlot) (size : ℕ) → before ≡ Waiting exponent retries time size → (pending ≡ true) ⊎ (earlier w time.0 ack ≡ false) → Outcome w pending ack (os ++ cs) before (Waiting exponent retries time size) None
   still exponent retries time size e h = silent refl (λ exponent' retries' time' size' f. (e ∙ f, (let z : time ≡ time' = cc in rw (← z) h)))
 
 module _ (w : ℕ) (pending : Bool) (ack : ℕ) (before : Phase) (cs : List ℕ) (exponent left retries size : ℕ) where
@@ -132,11 +131,11 @@ module _ (w : ℕ) (pending : Bool) (f : Fields) (draw : ℕ) (os cs : List ℕ)
 
 module _ (st : Station) (m : Map) (draw : ℕ) where
   -- there is a grant: no request; Idle, but for a Waiting station with a pending
-  pub hear_granted : has_grant st m ≡ true → (phase_after st m draw ≡ granted (has_pending st m) st.phase) × (request_in st m draw ≡ Nothing)
+  pub hear_granted : has_grant st m ≡ true → (phase_after st m draw ≡ granted (has_pending st m) st.phase) × (request_in st m draw ≡ None)
   unfolding phase_after request_in
   hear_granted g = (rw g refl, rw g refl)
 
-  pub hear_idle : has_grant st m ≡ true → has_pending st m ≡ false → (phase_after st m draw ≡ Idle) × (request_in st m draw ≡ Nothing)
+  pub hear_idle : has_grant st m ≡ true → has_pending st m ≡ false → (phase_after st m draw ≡ Idle) × (request_in st m draw ≡ None)
   unfolding granted
   hear_idle g h = let a = hear_granted g in (a.0 ∙ rw h (go st.phase), a.1)
     where
@@ -153,11 +152,11 @@ module _ (st : Station) (m : Map) (draw : ℕ) where
 
   -- .. and the station waits, with a pending or an Ack Time that is not later: as it was
   pub hear_still : (exponent retries : ℕ) (time : MiniSlot) (size : ℕ) → has_grant st m ≡ false → st.phase ≡ Waiting exponent retries time size → (has_pending st m ≡ true) ⊎ (earlier (width st) time.0 m.fields.ack.0 ≡ false) →
-      (phase_after st m draw ≡ Waiting exponent retries time size) × (request_in st m draw ≡ Nothing)
+      (phase_after st m draw ≡ Waiting exponent retries time size) × (request_in st m draw ≡ None)
   unfolding phase_after request_in quiet_phase ready_phase sending deferred acknowledged sent_by
   hear_still exponent retries time size g is (inl h) = (rw (g, is, h) refl, rw (g, is, h) refl)
   hear_still exponent retries time size g is (inr h) = go (has_pending st m) refl
     where
-      go : (b : Bool) → has_pending st m ≡ b → (phase_after st m draw ≡ Waiting exponent retries time size) × (request_in st m draw ≡ Nothing)
+      go : (b : Bool) → has_pending st m ≡ b → (phase_after st m draw ≡ Waiting exponent retries time size) × (request_in st m draw ≡ None)
       go true e = (rw (g, is, e) refl, rw (g, is, e) refl)
       go false e = (rw (g, is, e, h) refl, rw (g, is, e, h) refl)

@@ -12,7 +12,6 @@ use Rattle.slots.specs.declared.time.MiniSlot.{MiniSlot}
 use Rattle.slots.specs.Time.{moved_on}
 use Rattle.rules.specs.declared.element.Element.{Element}
 use Rattle.message.specs.declared.reading.Reading.{Reading}
-use Rattle.message.specs.declared.reading.Verdict.TheVariants.{Accepted}
 use Rattle.message.specs.Element.{element_at}
 use Rattle.rules.specs.Sids.{within}
 use Rattle.message.specs.Lists.{listed, keep, is_empty, gather}
@@ -23,12 +22,11 @@ use Rattle.message.proofs.Ways.{said, said_not, or_none}
 use Rattle.message.proofs.Accepted.{accepted, keep_append, gather_append, interval_to, interval_next, interval_end, after_null_lem}
 use Rattle.station.specs.declared.record.Phase.{Phase}
 use Rattle.station.specs.declared.record.Phase.TheVariants.{Deferring, Waiting}
-use Rattle.hearing.specs.declared.answer.Sent.{Sent}
-use Rattle.hearing.specs.declared.answer.Sent.TheVariants.{Nothing, At}
 use Rattle.hearing.specs.declared.opportunity.Found.{Found}
 use Rattle.hearing.specs.Opportunities.{spaced, contention_in, own_in, contention}
 use Rattle.hearing.specs.Scan.{first_of, grants, found_in, apart}
 use Rattle.hearing.specs.Steps.{passing}
+use Rattle.std.specs.Prelude.{Option, Some, None, Ok}
 
 and_none : (b : Bool) → (b && false) ≡ false
 and_none true = refl
@@ -42,24 +40,24 @@ granting_not_1 iuc h = go (eqb iuc 1) refl
     go false e = e
     go true e = let z : ◌≡◌ {A = Bool} false true = (rw (eqb-true iuc 1 e) at h) in let n : ◌≡◌ {A = ℕ} 0 1 = cc in absurd (omega arith)
 
-pub first_nothing : (own : Sent) (time : MiniSlot) → own ≡ Nothing → At time ≡ first_of own (time.0 ∷ [])
+pub first_nothing : (own : Option MiniSlot) (time : MiniSlot) → own ≡ None → Some time ≡ first_of own (time.0 ∷ [])
 unfolding first_of
 first_nothing own time e = rw e refl
 
-pub first_before : (own : Sent) (time before : MiniSlot) → own ≡ At before → At before ≡ first_of own (time.0 ∷ [])
+pub first_before : (own : Option MiniSlot) (time before : MiniSlot) → own ≡ Some before → Some before ≡ first_of own (time.0 ∷ [])
 unfolding first_of
 first_before own time before e = rw e refl
 
-first_none : (own : Sent) → first_of own [] ≡ own
+first_none : (own : Option MiniSlot) → first_of own [] ≡ own
 unfolding first_of
-first_none Nothing = refl
-first_none (At time) = refl
+first_none None = refl
+first_none (Some time) = refl
 
-first_append : (own : Sent) (xs ys : List ℕ) → first_of (first_of own xs) ys ≡ first_of own (xs ++ ys)
+first_append : (own : Option MiniSlot) (xs ys : List ℕ) → first_of (first_of own xs) ys ≡ first_of own (xs ++ ys)
 unfolding first_of
-first_append (At time) xs ys = refl
-first_append Nothing [] ys = refl
-first_append Nothing (x ∷ xs) ys = refl
+first_append (Some time) xs ys = refl
+first_append None [] ys = refl
+first_append None (x ∷ xs) ys = refl
 
 module _ (start σ r : ℕ) (found : Found) where
   pub found_none : found_in start σ r found [] ≡ found
@@ -110,7 +108,7 @@ module _ (start r : ℕ) (found : Found) (σ iuc first length : ℕ) where
     pub noted_nothing : g ≡ false → (not (eqb iuc 1) || ltb length r) ≡ true → found ≡ found_in start σ r found (one ∷ [])
     noted_nothing f h = none_more start σ r found one (rw (sym is ∙ f) refl) (unusable h)
 
-    pub noted_own : (time : MiniSlot) (s : Sent) → g ≡ false → (not (eqb iuc 1) || ltb length r) ≡ false → time.0 ≡ moved_on 32 start first → s ≡ first_of found.own (time.0 ∷ []) → record { bursts = found.bursts; own = s } ≡ found_in start σ r found (one ∷ [])
+    pub noted_own : (time : MiniSlot) (s : Option MiniSlot) → g ≡ false → (not (eqb iuc 1) || ltb length r) ≡ false → time.0 ≡ moved_on 32 start first → s ≡ first_of found.own (time.0 ∷ []) → record { bursts = found.bursts; own = s } ≡ found_in start σ r found (one ∷ [])
     unfolding found_in own_in
     noted_own time s f h t e =
         let both = or_none (not (eqb iuc 1)) (ltb length r) h in
@@ -172,7 +170,7 @@ module _ (el : ℕ → Element) (n σ : ℕ) (whole : Bool) (i : ℕ) where
         let one : n - i ≡ suc (n - (i + 1)) = omega arith in
         let g : grants σ (el i).sid (el i).iuc ≡ false = rw (← is) (sym said ∙ f) in rw (one, g) at left
 
-module _ (s : List ℕ) (reading : Reading) (ok : read_of s ≡ Accepted reading) where
+module _ (s : List ℕ) (reading : Reading) (ok : read_of s ≡ Ok reading) where
   pub null_before : reading.null < reading.n
   null_before = (accepted s reading ok).frame.inside
 

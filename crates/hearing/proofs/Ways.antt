@@ -11,8 +11,6 @@ use borrow.Author.Tests.{eq-eqb, ne_eqb, not-true}
 use Rattle.slots.specs.declared.time.MiniSlot.{MiniSlot}
 use Rattle.slots.specs.Time.{earlier, ahead, moved_on}
 use Rattle.message.specs.declared.reading.Reading.{Reading}
-use Rattle.message.specs.declared.reading.Verdict.{Verdict}
-use Rattle.message.specs.declared.reading.Verdict.TheVariants.{Accepted, Refused}
 use Rattle.rules.specs.declared.fields.Fields.{Fields}
 use Rattle.rules.specs.declared.refusal.Refusal.{Refusal}
 use Rattle.message.specs.Lists.{is_empty}
@@ -22,22 +20,21 @@ use Rattle.message.proofs.Accepted.{accepted}
 use Rattle.message.proofs.Ways.{said, said_not}
 use Rattle.station.specs.declared.record.Phase.{Phase}
 use Rattle.station.specs.declared.record.Phase.TheVariants.{Idle, Wanting, Deferring, Waiting}
-use Rattle.station.specs.declared.record.Remembered.{Remembered}
-use Rattle.station.specs.declared.record.Remembered.TheVariants.{Nothing, End}
 use Rattle.station.specs.declared.record.Station.{Station}
 use Rattle.station.specs.Records.{record_fault}
 use Rattle.station.proofs.Ways.{NotWaiting, NotDeferring, not_waiting, not_deferring}
 use Rattle.backoff.specs.Steps.{acknowledged, deferred}
-use Rattle.hearing.specs.declared.answer.Sent.{Sent}
-use Rattle.hearing.specs.declared.answer.Sent.TheVariants as sent
-use Rattle.hearing.specs.declared.answer.Answer.TheVariants as answer
 use Rattle.hearing.specs.declared.answer.Hearing.{Hearing}
 use Rattle.hearing.specs.declared.opportunity.Found.{Found}
 use Rattle.hearing.specs.declared.hearing.Taken.{Taken}
 use Rattle.hearing.specs.Opportunities.{contention, own}
 use Rattle.hearing.specs.Steps.{granted, passing, offered_own, sending, waiting_since, sent_by}
-use Rattle.hearing.specs.Hearing.{stale, hear_fault, has_pending, ready_phase, quiet_phase, phase_after, request_in, bursts_in, station_after, hearing, hearing_of, hear_of}
-use Rattle.hearing.specs.Scan.{first_of, found_in, waiting_with, taken_in}
+use Rattle.hearing.specs.Hearing.{stale, hear_fault, has_pending, ready_phase, quiet_phase, phase_after, request_in, bursts_in, station_after, heard_unless, heard_in, hearing, hearing_of, hear_of}
+use Rattle.rules.specs.declared.refusal.Reason.{Reason}
+use Rattle.rules.specs.declared.refusal.Reason.TheVariants.{Channel, Description, Stale, Late}
+use Rattle.rules.specs.Refusals.{refusal, unless}
+use Rattle.hearing.specs.Scan.{first_of, found_in, waiting_with, taken_in, heard_by, hearable_in}
+use Rattle.std.specs.Prelude.{Option, Some, None, Result, Ok, Err}
 
 -- a pending is asked for in Waiting alone
 module _ (b : Bool) (p : Phase) where
@@ -79,75 +76,75 @@ module _ (b : Bool) (p : Phase) where
     granted_waiting h = rw (is, h) refl
 
 -- step 4, by the first of the own Requests
-module _ (os cs : List ℕ) (p : Phase) (first : Sent) where
+module _ (os cs : List ℕ) (p : Phase) (first : Option MiniSlot) where
   pub sending_other : NotDeferring p → p ≡ sending os cs p
   unfolding sending
   sending_other h = not_deferring (λ q. q ≡ sending os cs q) refl (λ size. refl) (λ exponent retries time size. refl) p h
 
-  module _ (exponent left retries size : ℕ) (is : p ≡ Deferring exponent left retries size) (of : first ≡ first_of sent.Nothing os) where
-    pub sending_own : (q : Phase) (time : MiniSlot) → first ≡ sent.At time → q ≡ Waiting exponent retries time size → q ≡ sending os cs p
+  module _ (exponent left retries size : ℕ) (is : p ≡ Deferring exponent left retries size) (of : first ≡ first_of None os) where
+    pub sending_own : (q : Phase) (time : MiniSlot) → first ≡ Some time → q ≡ Waiting exponent retries time size → q ≡ sending os cs p
     unfolding sending first_of offered_own
     sending_own q time e h = rw is (h ∙ go os (sym of ∙ e))
       where
-        go : (l : List ℕ) → first_of sent.Nothing l ≡ sent.At time → Waiting exponent retries time size ≡ offered_own l cs exponent left retries size
+        go : (l : List ℕ) → first_of None l ≡ Some time → Waiting exponent retries time size ≡ offered_own l cs exponent left retries size
         go [] h = let z : ◌≡◌ {A = ℕ} 0 1 = cc in absurd (omega arith)
         go (t ∷ ts) h = let z : record { 0 = t } ≡ time = cc in rw z refl
 
-    pub sending_contention : (q : Phase) → first ≡ sent.Nothing → q ≡ passing cs exponent left retries size → q ≡ sending os cs p
+    pub sending_contention : (q : Phase) → first ≡ None → q ≡ passing cs exponent left retries size → q ≡ sending os cs p
     unfolding sending first_of offered_own
     sending_contention q e h = rw is (h ∙ go os (sym of ∙ e))
       where
-        go : (l : List ℕ) → first_of sent.Nothing l ≡ sent.Nothing → passing cs exponent left retries size ≡ offered_own l cs exponent left retries size
+        go : (l : List ℕ) → first_of None l ≡ None → passing cs exponent left retries size ≡ offered_own l cs exponent left retries size
         go [] h = refl
         go (t ∷ ts) h = let z : ◌≡◌ {A = ℕ} 0 1 = cc in absurd (omega arith)
 
 module _ (p : Phase) where
-  pub since_other : NotWaiting p → sent.Nothing ≡ waiting_since p
+  pub since_other : NotWaiting p → None ≡ waiting_since p
   unfolding waiting_since
-  since_other h = not_waiting (λ q. sent.Nothing ≡ waiting_since q) refl (λ size. refl) (λ exponent left retries size. refl) p h
+  since_other h = not_waiting (λ q. None ≡ waiting_since q) refl (λ size. refl) (λ exponent left retries size. refl) p h
 
-  pub since_waiting : (exponent retries : ℕ) (time : MiniSlot) (size : ℕ) → p ≡ Waiting exponent retries time size → sent.At time ≡ waiting_since p
+  pub since_waiting : (exponent retries : ℕ) (time : MiniSlot) (size : ℕ) → p ≡ Waiting exponent retries time size → Some time ≡ waiting_since p
   unfolding waiting_since
   since_waiting exponent retries time size e = rw e refl
 
   module _ (after : Phase) where
-    pub sent_other : NotDeferring p → sent.Nothing ≡ sent_by p after
+    pub sent_other : NotDeferring p → None ≡ sent_by p after
     unfolding sent_by
-    sent_other h = not_deferring (λ q. sent.Nothing ≡ sent_by q after) refl (λ size. refl) (λ exponent retries time size. refl) p h
+    sent_other h = not_deferring (λ q. None ≡ sent_by q after) refl (λ size. refl) (λ exponent retries time size. refl) p h
 
-    pub sent_deferring : (exponent left retries size : ℕ) (s : Sent) → p ≡ Deferring exponent left retries size → s ≡ waiting_since after → s ≡ sent_by p after
+    pub sent_deferring : (exponent left retries size : ℕ) (s : Option MiniSlot) → p ≡ Deferring exponent left retries size → s ≡ waiting_since after → s ≡ sent_by p after
     unfolding sent_by
     sent_deferring exponent left retries size s e h = rw e h
 
-module _ (end : Remembered) (start : ℕ) where
-  pub stale_never : end ≡ Nothing → false ≡ stale 32 end start
+module _ (end : Option MiniSlot) (start : ℕ) where
+  pub stale_never : end ≡ None → false ≡ stale 32 end start
   unfolding stale
   stale_never e = rw e refl
 
-  pub stale_end : (time : MiniSlot) (a : ℕ) → end ≡ End time → a ≡ ahead 32 time.0 start → not (ltb a 2147483648) ≡ stale 32 end start
+  pub stale_end : (time : MiniSlot) (a : ℕ) → end ≡ Some time → a ≡ ahead 32 time.0 start → not (ltb a 2147483648) ≡ stale 32 end start
   unfolding stale
   stale_end time a e h = rw (e, h) refl
 
 module _ (st : Station) (f : Fields) (present : ℕ) where
-  pub hear_12 : (f.channel ≡ st.channel → ⊥) → 12 ≡ hear_fault st f present
+  pub hear_12 : (f.channel ≡ st.channel → ⊥) → Err Channel ≡ hear_fault st f present
   unfolding hear_fault
   hear_12 a = rw (ne_eqb f.channel st.channel a) refl
 
   module _ (a : f.channel ≡ st.channel) where
-    pub hear_13 : (f.count ≡ st.count → ⊥) → 13 ≡ hear_fault st f present
+    pub hear_13 : (f.count ≡ st.count → ⊥) → Err Description ≡ hear_fault st f present
     unfolding hear_fault
     hear_13 b = rw (eq-eqb f.channel st.channel a, ne_eqb f.count st.count b) refl
 
     module _ (b : f.count ≡ st.count) where
-      pub hear_14 : stale 32 st.end f.start.0 ≡ true → 14 ≡ hear_fault st f present
+      pub hear_14 : stale 32 st.end f.start.0 ≡ true → Err Stale ≡ hear_fault st f present
       unfolding hear_fault
       hear_14 c = rw (eq-eqb f.channel st.channel a, eq-eqb f.count st.count b, c) refl
 
-      pub hear_15 : stale 32 st.end f.start.0 ≡ false → not (earlier 32 present f.start.0) ≡ true → 15 ≡ hear_fault st f present
+      pub hear_15 : stale 32 st.end f.start.0 ≡ false → not (earlier 32 present f.start.0) ≡ true → Err Late ≡ hear_fault st f present
       unfolding hear_fault
       hear_15 c d = rw (eq-eqb f.channel st.channel a, eq-eqb f.count st.count b, c, d) refl
 
-      pub hear_good : stale 32 st.end f.start.0 ≡ false → not (earlier 32 present f.start.0) ≡ false → 0 ≡ hear_fault st f present
+      pub hear_good : stale 32 st.end f.start.0 ≡ false → not (earlier 32 present f.start.0) ≡ false → Ok tt ≡ hear_fault st f present
       unfolding hear_fault
       hear_good c d = rw (eq-eqb f.channel st.channel a, eq-eqb f.count st.count b, c, d) refl
 
@@ -159,59 +156,95 @@ none : {A : Type 0} (xs : List A) → length xs ≡ 0 → not (is_empty xs) ≡ 
 none [] h = refl
 none (x ∷ xs) h = absurd (omega arith)
 
-module _ (s : List ℕ) (reading : Reading) (ok : read_of s ≡ Accepted reading) where
-  module _ (st : Station) (present draw f : ℕ) (is : f ≡ hear_fault st reading.fields present) where
-    pub hear_refused : (f ≡ 0 → ⊥) → record { station = st; answer = answer.Refused (record { number = f; element = 0 }) } ≡ hearing st (map_of s) present draw
-    unfolding hearing
-    hear_refused h = rw (← (accepted s reading ok).fields, ne_eqb (hear_fault st reading.fields present) 0 (λ z. h (is ∙ z)), ← is) refl
+same : {A : Type 0} {x : A} (other : A) (f : Result Unit Reason) → unless f 0 (Ok other) ≡ Ok x → ◌≡◌ {A = Result A Refusal} (Ok other) (Ok x)
+same other (Err reason) b = absurd (let z : ◌≡◌ {A = ℕ} 0 1 = cc in omega arith)
+same other (Ok u) b = b
 
-    pub hear_heard : (taken : Taken) (end : MiniSlot) → f ≡ 0 → taken ≡ taken_in st (map_of s) draw → end.0 ≡ moved_on 32 reading.fields.start.0 reading.length →
-        ◌≡◌ {A = Hearing} (record {
-          station = record { sid = st.sid; channel = st.channel; count = st.count; r = st.r; end = End end; phase = taken.phase };
-          answer = answer.Heard taken.bursts taken.request;
-        }) (hearing st (map_of s) present draw)
-    unfolding hearing station_after
-    hear_heard taken end z t e =
-        let a = accepted s reading ok in
-        let at : end ≡ record { 0 = moved_on 32 reading.fields.start.0 reading.length } = λ i. record { 0 = e i } in
-        rw (t, at, ← a.ends, ← a.fields, sym is ∙ z) refl
+-- a MAP that was read is heard, unless one of the checks refuses it
+module _ (st : Station) (s : List ℕ) (present : ℕ) where
+  pub hearable_record : (f : Result Unit Reason) (why : Reason) → f ≡ record_fault st → f ≡ Err why → Err (refusal why 0) ≡ hearable_in st s present
+  unfolding hearable_in
+  hearable_record f why is h = rw (sym is ∙ h) refl
 
--- hearing what was read
-module _ (st : Station) (s : List ℕ) (v : Verdict) (present draw : ℕ) where
-  pub verdict_refused : (why : Refusal) → v ≡ read_of s → v ≡ Refused why → record { station = st; answer = answer.Refused why } ≡ hearing_of st (read_of s) (map_of s) present draw
-  verdict_refused why h e = rw (sym h ∙ e) refl
+  module _ (good : record_fault st ≡ Ok tt) (v : Result Reading Refusal) (read : v ≡ read_of s) where
+    pub hearable_message : (why : Refusal) → v ≡ Err why → Err why ≡ hearable_in st s present
+    unfolding hearable_in
+    hearable_message why h = rw (good, sym read ∙ h) refl
 
-  pub verdict_accepted : (reading : Reading) (r : Hearing) → v ≡ read_of s → v ≡ Accepted reading → r ≡ hearing st (map_of s) present draw → r ≡ hearing_of st (read_of s) (map_of s) present draw
-  verdict_accepted reading r h e k = rw (sym h ∙ e) k
+    module _ (reading : Reading) (got : v ≡ Ok reading) (f : Result Unit Reason) (is : f ≡ hear_fault st reading.fields present) where
+      pub hearable_map : (why : Reason) → f ≡ Err why → Err (refusal why 0) ≡ hearable_in st s present
+      unfolding hearable_in
+      hearable_map why h = rw (good, sym read ∙ got, sym is ∙ h) refl
 
-pub verdict_read : (s : List ℕ) (v : Verdict) (reading : Reading) → v ≡ read_of s → v ≡ Accepted reading → read_of s ≡ Accepted reading
-verdict_read s v reading h e = sym h ∙ e
+      pub hearable_good : f ≡ Ok tt → Ok reading ≡ hearable_in st s present
+      unfolding hearable_in
+      hearable_good h = rw (good, sym read ∙ got, sym is ∙ h) refl
 
-module _ (st : Station) (s : List ℕ) (present draw f : ℕ) (is : f ≡ record_fault st) where
-  pub hear_record : (f ≡ 0 → ⊥) → record { station = st; answer = answer.Refused (record { number = f; element = 0 }) } ≡ hear_of st s present draw
-  unfolding hear_of
-  hear_record h = rw (ne_eqb (record_fault st) 0 (λ z. h (is ∙ z)), ← is) refl
+  -- .. and what becomes of it
+  module _ (v : Result Reading Refusal) (is : v ≡ hearable_in st s present) where
+    pub unheard_hear : (why : Refusal) (draw : ℕ) → v ≡ Err why → record { station = st; answer = Err why } ≡ hear_of st s present draw
+    unfolding hear_of hearable_in hearing
+    unheard_hear why draw h = go (record_fault st) (read_of s) refl (sym is ∙ h)
+      where
+        go : (f : Result Unit Reason) (r : Result Reading Refusal) → read_of s ≡ r → unless f 0 (heard_by st present r) ≡ Err why → record { station = st; answer = Err why } ≡ heard_unless st f (hearing_of st r (map_of s) present draw)
+        go (Err reason) r e k = let same : refusal reason 0 ≡ why = cc in rw same refl
+        go (Ok u) (Err other) e k = let same : other ≡ why = cc in rw same refl
+        go (Ok u) (Ok reading) e k = map (hear_fault st reading.fields present) refl k
+          where
+            map : (f : Result Unit Reason) → hear_fault st reading.fields present ≡ f → unless f 0 (Ok reading) ≡ Err why → record { station = st; answer = Err why } ≡ hearing st (map_of s) present draw
+            map (Err reason) a b = let same : refusal reason 0 ≡ why = cc in rw (← (accepted s reading e).fields, a, same) refl
+            map (Ok u) a b = absurd (let z : ◌≡◌ {A = ℕ} 0 1 = cc in omega arith)
 
-  pub hear_message : (r : Hearing) → f ≡ 0 → r ≡ hearing_of st (read_of s) (map_of s) present draw → r ≡ hear_of st s present draw
-  unfolding hear_of
-  hear_message r h e = rw (sym is ∙ h) e
+    pub heard_read : (reading : Reading) → v ≡ Ok reading → read_of s ≡ Ok reading
+    unfolding hearable_in
+    heard_read reading h = go (record_fault st) (read_of s) (sym is ∙ h)
+      where
+        go : (f : Result Unit Reason) (r : Result Reading Refusal) → unless f 0 (heard_by st present r) ≡ Ok reading → r ≡ Ok reading
+        go (Err reason) r k = absurd (let z : ◌≡◌ {A = ℕ} 0 1 = cc in omega arith)
+        go (Ok u) (Err other) k = absurd (let z : ◌≡◌ {A = ℕ} 0 1 = cc in omega arith)
+        go (Ok u) (Ok other) k = same other (hear_fault st other.fields present) k
+
+    pub heard_hear : (reading : Reading) (draw : ℕ) (r : Hearing) → v ≡ Ok reading → r ≡ heard_in st (map_of s) draw → r ≡ hear_of st s present draw
+    unfolding hear_of hearable_in hearing
+    heard_hear reading draw r h e = e ∙ go (record_fault st) (read_of s) refl (sym is ∙ h)
+      where
+        go : (f : Result Unit Reason) (r : Result Reading Refusal) → read_of s ≡ r → unless f 0 (heard_by st present r) ≡ Ok reading → heard_in st (map_of s) draw ≡ heard_unless st f (hearing_of st r (map_of s) present draw)
+        go (Err reason) r e k = absurd (let z : ◌≡◌ {A = ℕ} 0 1 = cc in omega arith)
+        go (Ok u) (Err other) e k = absurd (let z : ◌≡◌ {A = ℕ} 0 1 = cc in omega arith)
+        go (Ok u) (Ok other) e k = map (hear_fault st other.fields present) refl k
+          where
+            map : (f : Result Unit Reason) → hear_fault st other.fields present ≡ f → unless f 0 (Ok other) ≡ Ok reading → heard_in st (map_of s) draw ≡ hearing st (map_of s) present draw
+            map (Err reason) a b = absurd (let z : ◌≡◌ {A = ℕ} 0 1 = cc in omega arith)
+            map (Ok u) a b = rw (← (accepted s other e).fields, a) refl
+
+module _ (s : List ℕ) (reading : Reading) (ok : read_of s ≡ Ok reading) (st : Station) (draw : ℕ) where
+  pub heard_taken : (taken : Taken) (end : MiniSlot) → taken ≡ taken_in st (map_of s) draw → end.0 ≡ moved_on 32 reading.fields.start.0 reading.length →
+      ◌≡◌ {A = Hearing} (record {
+        station = record { sid = st.sid; channel = st.channel; count = st.count; r = st.r; end = Some end; phase = taken.phase };
+        answer = Ok (record { bursts = taken.bursts; request = taken.request });
+      }) (heard_in st (map_of s) draw)
+  unfolding station_after
+  heard_taken taken end t e =
+      let a = accepted s reading ok in
+      let at : end ≡ record { 0 = moved_on 32 reading.fields.start.0 reading.length } = λ i. record { 0 = e i } in
+      rw (t, at, ← a.ends, ← a.fields) refl
 
 -- the four steps together
-module _ (s : List ℕ) (reading : Reading) (ok : read_of s ≡ Accepted reading) (st : Station) (found : Found) (is : found ≡ found_in reading.fields.start.0 st.sid st.r (record { bursts = 0; own = sent.Nothing }) (intervals (map_of s).elements)) where
+module _ (s : List ℕ) (reading : Reading) (ok : read_of s ≡ Ok reading) (st : Station) (found : Found) (is : found ≡ found_in reading.fields.start.0 st.sid st.r (record { bursts = 0; own = None }) (intervals (map_of s).elements)) where
   found_bursts : found.bursts ≡ bursts_in st (map_of s)
   unfolding found_in grants_to
   found_bursts = rw (is, zero-add) refl
 
-  pub found_own : found.own ≡ first_of sent.Nothing (own st.sid st.r (map_of s))
+  pub found_own : found.own ≡ first_of None (own st.sid st.r (map_of s))
   unfolding found_in own
   found_own = rw (is, (accepted s reading ok).fields) refl
 
   module _ (draw : ℕ) (waits : Bool) (pending : waits ≡ waiting_with (has_pending st (map_of s)) st.phase) where
-    pub taken_granted : (q : Phase) → (found.bursts ≡ 0 → ⊥) → q ≡ granted waits st.phase → record { bursts = found.bursts; phase = q; request = sent.Nothing } ≡ taken_in st (map_of s) draw
+    pub taken_granted : (q : Phase) → (found.bursts ≡ 0 → ⊥) → q ≡ granted waits st.phase → record { bursts = found.bursts; phase = q; request = None } ≡ taken_in st (map_of s) draw
     unfolding phase_after request_in
     taken_granted q h g = rw (some (grants_to st.sid (map_of s).elements) (λ z. h (found_bursts ∙ z)), g, pending, granted_asked (has_pending st (map_of s)) st.phase, found_bursts) refl
 
-    pub taken_quiet : (ready after : Phase) (request : Sent) → found.bursts ≡ 0 → ready ≡ deferred reading.fields draw (acknowledged 32 waits reading.fields draw st.phase) →
+    pub taken_quiet : (ready after : Phase) (request : Option MiniSlot) → found.bursts ≡ 0 → ready ≡ deferred reading.fields draw (acknowledged 32 waits reading.fields draw st.phase) →
         after ≡ sending (own st.sid st.r (map_of s)) (contention st.r (map_of s)) ready → request ≡ sent_by ready after →
         record { bursts = 0; phase = after; request = request } ≡ taken_in st (map_of s) draw
     unfolding phase_after request_in quiet_phase ready_phase

@@ -1,4 +1,5 @@
 -- Numbers of the paper, and edges of its rules: one table, computed by the definitions that the promises cite.
+use Rattle.rules.specs.Refusals.{number_of}
 use mathlib.Core.Path.{◌≡◌, refl}
 use mathlib.Core.Bool.{true}
 use mathlib.Core.List.{List, [], ◌∷◌}
@@ -9,27 +10,26 @@ use Rattle.rules.proofs.Worked.{element}
 use Rattle.message.specs.Map.{Map, intervals, after_null, map_length, grants_to, pendings_to}
 use Rattle.station.specs.declared.record.Phase.{Phase}
 use Rattle.station.specs.declared.record.Phase.TheVariants.{Idle, Deferring}
-use Rattle.station.specs.declared.record.Remembered.TheVariants as remembered
 use Rattle.station.specs.declared.record.Station.{Station}
 use Rattle.backoff.specs.Steps.{lost, acknowledged, deferred}
 use Rattle.backoff.proofs.Worked.{phase, fields, waiting, Case, case, all}
-use Rattle.hearing.specs.declared.answer.Sent.{Sent}
-use Rattle.hearing.specs.declared.answer.Sent.TheVariants.{Nothing, At}
-use Rattle.hearing.specs.declared.answer.Answer.{Answer}
-use Rattle.hearing.specs.declared.answer.Answer.TheVariants.{Heard, Refused}
 use Rattle.hearing.specs.declared.answer.Hearing.{Hearing}
 use Rattle.hearing.specs.Opportunities.{spaced, contention_in, own_in, contention, own}
 use Rattle.hearing.specs.Steps.{granted, passing, offered_own, sending, waiting_since, sent_by}
 use Rattle.hearing.specs.Hearing.{stale, hear_fault, ready_phase, quiet_phase, phase_after, request_in, station_after, hearing}
+use Rattle.std.specs.Prelude.{Option, Some, None, Result, Ok, Err}
+use Rattle.slots.specs.declared.time.MiniSlot.{MiniSlot}
+use Rattle.rules.specs.declared.refusal.Refusal.{Refusal}
+use Rattle.hearing.specs.declared.answer.Answer.{Answer}
 
 -- an answer as numbers
-abbrev request : Sent → List ℕ
-request Nothing = []
-request (At time) = time.0 ∷ []
+abbrev request : Option MiniSlot → List ℕ
+request None = []
+request (Some time) = time.0 ∷ []
 
-abbrev answer : Answer → List ℕ
-answer (Heard bursts sent) = bursts ∷ request sent
-answer (Refused why) = why.number ∷ why.element ∷ []
+abbrev answer : Result Answer Refusal → List ℕ
+answer (Ok a) = a.bursts ∷ request a.request
+answer (Err why) = number_of why.reason ∷ why.element ∷ []
 
 abbrev map_at : ℕ → ℕ → List Element → Map
 map_at start ack es = record { fields = fields start ack; elements = es }
@@ -40,7 +40,7 @@ broadcast start length = map_at start 0 (element 0x3FFF 1 0 ∷ element 0 7 leng
 
 -- station 5 on that channel
 abbrev station : ℕ → Phase → Station
-station r p = record { sid = 5; channel = 1; count = 2; r = r; end = remembered.Nothing; phase = p }
+station r p = record { sid = 5; channel = 1; count = 2; r = r; end = None; phase = p }
 
 -- what station 5 is after a MAP, and what it answers; draw 7, one mini-slot before the start
 abbrev hears : Station → Map → Hearing

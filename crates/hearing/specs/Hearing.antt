@@ -1,43 +1,41 @@
 -- Document 01, "The station" and "Refusal numbers": hearing.
 use Rattle.std.specs.Prelude.{ℕ, Bool, false, cond, not, List, ltb, eqb, length}
 use Rattle.slots.specs.Time.{ahead, half, earlier}
-use Rattle.rules.specs.Refusals.{Channel, Description, Stale, Late, number_of, refusal}
+use Rattle.rules.specs.declared.refusal.Reason.{Reason}
+use Rattle.rules.specs.declared.refusal.Reason.TheVariants.{Channel, Description, Stale, Late}
+use Rattle.rules.specs.Refusals.{refusal}
 use Rattle.rules.specs.declared.refusal.Refusal.{Refusal}
 use Rattle.rules.specs.declared.fields.Fields.{Fields}
-use Rattle.message.specs.declared.reading.Verdict.{Verdict}
-use Rattle.message.specs.declared.reading.Verdict.TheVariants.{Accepted, Refused}
 use Rattle.message.specs.Lists.{is_empty}
 use Rattle.message.specs.Map.{Map, grants_to, pendings_to, end_of}
 use Rattle.message.specs.Reading.{read_of, map_of}
 use Rattle.station.specs.declared.record.Phase.{Phase}
-use Rattle.station.specs.declared.record.Remembered.{Remembered}
-use Rattle.station.specs.declared.record.Remembered.TheVariants.{Nothing, End}
 use Rattle.station.specs.declared.record.Station.{Station}
 use Rattle.station.specs.Records.{record_fault}
 use Rattle.backoff.specs.Steps.{acknowledged, deferred}
-use Rattle.hearing.specs.declared.answer.Sent.{Sent}
-use Rattle.hearing.specs.declared.answer.Sent.TheVariants as sent
-use Rattle.hearing.specs.declared.answer.Answer.TheVariants as answer
 use Rattle.hearing.specs.declared.answer.Hearing.{Hearing}
 use Rattle.hearing.specs.Opportunities.{contention, own}
 use Rattle.hearing.specs.Steps.{granted, sending, sent_by}
+use Rattle.std.specs.Prelude.{Option, Some, None, Result, Ok, Err}
+use Rattle.slots.specs.declared.time.MiniSlot.{MiniSlot}
+use Rattle.message.specs.declared.reading.Reading.{Reading}
 
 -- how many bits of a time a station compares
 abbrev pub width : Station → ℕ
 width st = 32
 
 -- 14: "MAP's start is not 0 to 2^31 - 1 ahead of the remembered end"; "not before a first accepted MAP"
-unfoldable pub stale : ℕ → Remembered → ℕ → Bool
-stale w Nothing start = false
-stale w (End e) start = not (ltb (ahead w e.0 start) (half w))
+unfoldable pub stale : ℕ → Option MiniSlot → ℕ → Bool
+stale w None start = false
+stale w (Some e) start = not (ltb (ahead w e.0 start) (half w))
 
 -- "Hearing: message, 12, 13, 14, 15"
-unfoldable pub hear_fault : Station → Fields → ℕ → ℕ
+unfoldable pub hear_fault : Station → Fields → ℕ → Result Unit Reason
 hear_fault st f present =
-    cond (not (eqb f.channel st.channel)) (number_of Channel)
-    (cond (not (eqb f.count st.count)) (number_of Description)
-    (cond (stale (width st) st.end f.start.0) (number_of Stale)
-    (cond (not (earlier (width st) present f.start.0)) (number_of Late) 0)))
+    cond (not (eqb f.channel st.channel)) (Err Channel)
+    (cond (not (eqb f.count st.count)) (Err Description)
+    (cond (stale (width st) st.end f.start.0) (Err Stale)
+    (cond (not (earlier (width st) present f.start.0)) (Err Late) (Ok tt))))
 
 -- a grant, and a pending, for the station's SID
 abbrev pub has_grant : Station → Map → Bool
@@ -58,8 +56,8 @@ unfoldable pub phase_after : Station → Map → ℕ → Phase
 phase_after st m draw = cond (has_grant st m) (granted (has_pending st m) st.phase) (quiet_phase st m draw)
 
 -- "the request sent, if any, by first mini-slot"
-unfoldable pub request_in : Station → Map → ℕ → Sent
-request_in st m draw = cond (has_grant st m) sent.Nothing (sent_by (ready_phase st m draw) (quiet_phase st m draw))
+unfoldable pub request_in : Station → Map → ℕ → Option MiniSlot
+request_in st m draw = cond (has_grant st m) None (sent_by (ready_phase st m draw) (quiet_phase st m draw))
 
 -- "the number of data bursts"
 abbrev pub bursts_in : Station → Map → ℕ
@@ -72,28 +70,32 @@ station_after st m draw = record {
   channel = st.channel;
   count = st.count;
   r = st.r;
-  end = End (record { 0 = end_of m });
+  end = Some (record { 0 = end_of m });
   phase = phase_after st m draw;
 }
 
 -- a refusal "changes no record"
 abbrev pub unheard : Station → Refusal → Hearing
-unheard st why = record { station = st; answer = answer.Refused why }
+unheard st why = record { station = st; answer = Err why }
+
+-- refused by a check; or else it goes on
+abbrev pub heard_unless : Station → Result Unit Reason → Hearing → Hearing
+heard_unless st (Ok u) rest = rest
+heard_unless st (Err why) rest = unheard st (refusal why 0)
+
+-- the station and its answer, where nothing is refused
+abbrev pub heard_in : Station → Map → ℕ → Hearing
+heard_in st m draw = record { station = station_after st m draw; answer = Ok (record { bursts = bursts_in st m; request = request_in st m draw }) }
 
 -- hearing a MAP that was read
 unfoldable pub hearing : Station → Map → ℕ → ℕ → Hearing
-hearing st m present draw =
-    cond (eqb (hear_fault st m.fields present) 0)
-    (record { station = station_after st m draw; answer = answer.Heard (bursts_in st m) (request_in st m draw) })
-    (unheard st (refusal (hear_fault st m.fields present) 0))
+hearing st m present draw = heard_unless st (hear_fault st m.fields present) (heard_in st m draw)
 
 -- .. or not
-abbrev pub hearing_of : Station → Verdict → Map → ℕ → ℕ → Hearing
-hearing_of st (Accepted reading) m present draw = hearing st m present draw
-hearing_of st (Refused why) m present draw = unheard st why
+abbrev pub hearing_of : Station → Result Reading Refusal → Map → ℕ → ℕ → Hearing
+hearing_of st (Ok reading) m present draw = hearing st m present draw
+hearing_of st (Err why) m present draw = unheard st why
 
 -- "A station handed in is checked first (6, 17)"; then the message
 unfoldable pub hear_of : Station → List ℕ → ℕ → ℕ → Hearing
-hear_of st bytes present draw =
-    cond (eqb (record_fault st) 0) (hearing_of st (read_of bytes) (map_of bytes) present draw)
-    (unheard st (refusal (record_fault st) 0))
+hear_of st bytes present draw = heard_unless st (record_fault st) (hearing_of st (read_of bytes) (map_of bytes) present draw)

@@ -9,18 +9,23 @@ use Rattle.message.specs.Map.{Map, Interval}
 use Rattle.station.specs.declared.record.Phase.{Phase}
 use Rattle.station.specs.declared.record.Phase.TheVariants.{Idle, Wanting, Deferring, Waiting}
 use Rattle.station.specs.declared.record.Station.{Station}
-use Rattle.hearing.specs.declared.answer.Sent.{Sent}
-use Rattle.hearing.specs.declared.answer.Sent.TheVariants.{Nothing, At}
 use Rattle.hearing.specs.declared.opportunity.Found.{Found}
 use Rattle.hearing.specs.declared.hearing.Taken.{Taken}
 use Rattle.hearing.specs.Opportunities.{own_in}
-use Rattle.hearing.specs.Hearing.{bursts_in, phase_after, request_in}
+use Rattle.rules.specs.Refusals.{unless}
+use Rattle.station.specs.Records.{record_fault}
+use Rattle.message.specs.declared.reading.Reading.{Reading}
+use Rattle.message.specs.Reading.{read_of}
+use Rattle.rules.specs.declared.refusal.Refusal.{Refusal}
+use Rattle.hearing.specs.Hearing.{hear_fault, bursts_in, phase_after, request_in}
+use Rattle.std.specs.Prelude.{Option, Some, None, Result, Ok, Err}
+use Rattle.slots.specs.declared.time.MiniSlot.{MiniSlot}
 
 -- the first of some times, unless there was one before them
-unfoldable pub first_of : Sent → List ℕ → Sent
-first_of (At time) ts = At time
-first_of Nothing [] = Nothing
-first_of Nothing (t ∷ ts) = At (record { 0 = t })
+unfoldable pub first_of : Option MiniSlot → List ℕ → Option MiniSlot
+first_of (Some time) ts = Some time
+first_of None [] = None
+first_of None (t ∷ ts) = Some (record { 0 = t })
 
 -- a grant, or a pending, to a SID
 abbrev pub grants : ℕ → ℕ → ℕ → Bool
@@ -49,3 +54,11 @@ apart r sid iuc =
 -- what the four steps come to
 abbrev pub taken_in : Station → Map → ℕ → Taken
 taken_in st m draw = record { bursts = bursts_in st m; phase = phase_after st m draw; request = request_in st m draw }
+
+-- what was read, where the station hears it
+abbrev pub heard_by : Station → ℕ → Result Reading Refusal → Result Reading Refusal
+heard_by st present (Ok reading) = unless (hear_fault st reading.fields present) 0 (Ok reading)
+heard_by st present (Err why) = Err why
+
+unfoldable pub hearable_in : Station → List ℕ → ℕ → Result Reading Refusal
+hearable_in st s present = unless (record_fault st) 0 (heard_by st present (read_of s))

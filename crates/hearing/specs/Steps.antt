@@ -2,8 +2,8 @@
 use Rattle.std.specs.Prelude.{ℕ, zero, suc, Bool, cond, List, [], ◌∷◌}
 use Rattle.station.specs.declared.record.Phase.{Phase}
 use Rattle.station.specs.declared.record.Phase.TheVariants.{Idle, Wanting, Deferring, Waiting}
-use Rattle.hearing.specs.declared.answer.Sent.{Sent}
-use Rattle.hearing.specs.declared.answer.Sent.TheVariants.{Nothing, At}
+use Rattle.std.specs.Prelude.{Option, Some, None}
+use Rattle.slots.specs.declared.time.MiniSlot.{MiniSlot}
 
 -- 1. There is a grant: "any state becomes Idle, except Waiting with a pending for the SID in the same MAP, which stays as it is. Then the MAP is done with."
 unfoldable pub granted : Bool → Phase → Phase
@@ -30,14 +30,14 @@ sending own contention (Deferring exponent left retries size) = offered_own own 
 sending own contention (Waiting exponent retries time size) = Waiting exponent retries time size
 
 -- the request sent in step 4, by the phases before and after it: only a Deferring station sends, and is then Waiting
-unfoldable pub waiting_since : Phase → Sent
-waiting_since Idle = Nothing
-waiting_since (Wanting size) = Nothing
-waiting_since (Deferring exponent left retries size) = Nothing
-waiting_since (Waiting exponent retries time size) = At time
+unfoldable pub waiting_since : Phase → Option MiniSlot
+waiting_since Idle = None
+waiting_since (Wanting size) = None
+waiting_since (Deferring exponent left retries size) = None
+waiting_since (Waiting exponent retries time size) = Some time
 
-unfoldable pub sent_by : Phase → Phase → Sent
-sent_by Idle after = Nothing
-sent_by (Wanting size) after = Nothing
+unfoldable pub sent_by : Phase → Phase → Option MiniSlot
+sent_by Idle after = None
+sent_by (Wanting size) after = None
 sent_by (Deferring exponent left retries size) after = waiting_since after
-sent_by (Waiting exponent retries time size) after = Nothing
+sent_by (Waiting exponent retries time size) after = None

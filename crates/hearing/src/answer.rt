@@ -3,21 +3,15 @@ use rules::Refusal;
 use slots::MiniSlot;
 use station::Station;
 
-// A request sent, by its first mini-slot, or none.
-#[derive(Clone, Copy)]
-pub enum Sent {
-    Nothing,
-    At(MiniSlot),
+// The number of data bursts, and the request sent, by its first mini-slot, if one was.
+#[derive(Clone, Copy, PartialEq, Eq)]
+pub struct Answer {
+    pub bursts: u32,
+    pub request: Option<MiniSlot>,
 }
 
-#[derive(Clone, Copy)]
-pub enum Answer {
-    Heard { bursts: u32, request: Sent },
-    Refused(Refusal),
-}
-
-#[derive(Clone, Copy)]
+#[derive(Clone, Copy, PartialEq, Eq)]
 pub struct Hearing {
     pub station: Station,
-    pub answer: Answer,
+    pub answer: Result<Answer, Refusal>,
 }

@@ -2,61 +2,47 @@
 ghost use Rattle.std.specs.Prelude.{◌≡◌, not};
 ghost use Rattle.slots.specs.Time.{earlier};
 ghost use Rattle.message.specs.Reading.{read_of, map_of};
-ghost use Rattle.message.specs.declared.reading.Verdict.TheVariants.{Accepted};
-ghost use Rattle.hearing.specs.Hearing.{stale, hear_fault, hearing, hearing_of, hear_of};
-ghost use Rattle.hearing.specs.Scan.{taken_in};
+ghost use Rattle.hearing.specs.Hearing.{stale, hear_fault, heard_in, hear_of};
+ghost use Rattle.hearing.specs.Scan.{hearable_in, taken_in};
 
-use crate::answer::{Answer, Hearing, Sent};
+use crate::answer::{Answer, Hearing};
 use crate::opportunity::{find, waiting_with_pending};
 use crate::steps::{after_deferring, after_grant, sent_by};
 use backoff::ready_phase;
-use message::{Reading, Verdict, read};
-use rules::{Fields, Refusal};
+use message::{Reading, read};
+use rules::{Fields, Reason, Refusal};
 use slots::MiniSlot;
-use station::{Phase, Remembered, Station, record_fault};
+use station::{Phase, Station, record_fault};
 
 // The answer to a MAP and the station after it; or the refusal, with the station as it came.
 pub fn hear(station: Station, bytes: &[u8], present: MiniSlot, draw: u16) -> Hearing
     ensures { result ≡ hear_of station bytes.now present.0 draw }
 {
-    let f = record_fault(station);
-    if f != 0 {
-        return Hearing {
+    match hearable(station, bytes, present) {
+        Ok(reading) => heard(station, bytes, reading, draw),
+        Err(why) => Hearing {
             station,
-            answer: Answer::Refused(Refusal {
-                number: f,
-                element: 0,
-            }),
-        };
-    }
-    hear_verdict(station, bytes, read(bytes), present, draw)
-}
-
-fn hear_verdict(
-    st: Station,
-    bytes: &[u8],
-    verdict: Verdict,
-    present: MiniSlot,
-    draw: u16,
-) -> Hearing
-    requires { verdict ≡ read_of bytes.now }
-    ensures { result ≡ hearing_of st (read_of bytes.now) (map_of bytes.now) present.0 draw }
-{
-    match verdict {
-        Verdict::Refused(why) => Hearing {
-            station: st,
-            answer: Answer::Refused(why),
+            answer: Err(why),
         },
-        Verdict::Accepted(reading) => hear_map(st, bytes, reading, present, draw),
     }
 }
 
-fn stale(end: Remembered, start: MiniSlot) -> bool
+// What was read, where it is for this station, now.
+fn hearable(st: Station, bytes: &[u8], present: MiniSlot) -> Result<Reading, Refusal>
+    ensures { result ≡ hearable_in st bytes.now present.0 }
+{
+    record_fault(st)?;
+    let reading = read(bytes)?;
+    hear_fault(st, reading.fields, present)?;
+    Ok(reading)
+}
+
+fn stale(end: Option<MiniSlot>, start: MiniSlot) -> bool
     ensures { result ≡ stale 32 end start.0 }
 {
     match end {
-        Remembered::Nothing => false,
-        Remembered::End(time) => !(time.ahead(start) < 2147483648),
+        None => false,
+        Some(time) => !(time.ahead(start) < 2147483648),
     }
 }
 
@@ -66,88 +52,67 @@ fn late(present: MiniSlot, start: MiniSlot) -> bool
     !present.earlier(start)
 }
 
-// Why a MAP that was read is not for this station, now, or 0.
-fn hear_fault(st: Station, fields: Fields, present: MiniSlot) -> u32
+// Why a MAP that was read is not for this station, now.
+fn hear_fault(st: Station, fields: Fields, present: MiniSlot) -> Result<(), Reason>
     ensures { result ≡ hear_fault st fields present.0 }
 {
     if fields.channel != st.channel {
-        return Refusal::CHANNEL;
+        return Err(Reason::Channel);
     }
     if fields.count != st.count {
-        return Refusal::DESCRIPTION;
+        return Err(Reason::Description);
     }
-    let end = st.end;
-    let start = fields.start;
-    if stale(end, start) {
-        return Refusal::STALE;
+    if stale(st.end, fields.start) {
+        return Err(Reason::Stale);
     }
-    if late(present, start) {
-        return Refusal::LATE;
+    if late(present, fields.start) {
+        return Err(Reason::Late);
     }
-    0
+    Ok(())
 }
 
-fn hear_map(st: Station, bytes: &[u8], reading: Reading, present: MiniSlot, draw: u16) -> Hearing
-    requires { read_of bytes.now ≡ Accepted reading }
-    ensures { result ≡ hearing st (map_of bytes.now) present.0 draw }
+fn heard(st: Station, bytes: &[u8], reading: Reading, draw: u16) -> Hearing
+    requires { read_of bytes.now ≡ Ok reading }
+    ensures { result ≡ heard_in st (map_of bytes.now) draw }
 {
-    let fields = reading.fields;
-    let f = hear_fault(st, fields, present);
-    if f != 0 {
-        return Hearing {
-            station: st,
-            answer: Answer::Refused(Refusal {
-                number: f,
-                element: 0,
-            }),
-        };
-    }
     let taken = take(st, bytes, reading, draw);
-    let start = fields.start;
-    let phase = taken.phase;
-    let request = taken.request;
+    let start = reading.fields.start;
     Hearing {
         station: Station {
-            sid: st.sid,
-            channel: st.channel,
-            count: st.count,
-            r: st.r,
-            end: Remembered::End(start.moved_on(reading.length)),
-            phase,
+            end: Some(start.moved_on(reading.length)),
+            phase: taken.phase,
+            ..st
         },
-        answer: Answer::Heard {
+        answer: Ok(Answer {
             bursts: taken.bursts,
-            request,
-        },
+            request: taken.request,
+        }),
     }
 }
 
 // What the four steps come to.
-#[derive(Clone, Copy)]
+#[derive(Clone, Copy, PartialEq, Eq)]
 pub(crate) struct Taken {
     pub bursts: u32,
     pub phase: Phase,
-    pub request: Sent,
+    pub request: Option<MiniSlot>,
 }
 
 fn take(st: Station, bytes: &[u8], reading: Reading, draw: u16) -> Taken
-    requires { read_of bytes.now ≡ Accepted reading }
+    requires { read_of bytes.now ≡ Ok reading }
     ensures { result ≡ taken_in st (map_of bytes.now) draw }
 {
     let found = find(bytes, reading, st.sid, st.r);
-    let fields = reading.fields;
-    let own = found.own;
-    let phase = st.phase;
-    let waits = waiting_with_pending(bytes, reading, st.sid, phase);
+    let waits = waiting_with_pending(bytes, reading, st.sid, st.phase);
     if found.bursts != 0 {
         return Taken {
             bursts: found.bursts,
-            phase: after_grant(waits, phase),
-            request: Sent::Nothing,
+            phase: after_grant(waits, st.phase),
+            request: None,
         };
     }
-    let ready = ready_phase(waits, fields, draw, phase);
-    let after = after_deferring(st, bytes, reading, own, ready);
+    let ready = ready_phase(waits, reading.fields, draw, st.phase);
+    let after = after_deferring(st, bytes, reading, found.own, ready);
     Taken {
         bursts: 0,
         phase: after,

@@ -6,5 +6,5 @@ pub mod hearing;
 pub mod opportunity;
 pub mod steps;
 
-pub use answer::{Answer, Hearing, Sent};
+pub use answer::{Answer, Hearing};
 pub use hearing::hear;

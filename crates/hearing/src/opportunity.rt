@@ -5,12 +5,10 @@ ghost use Rattle.std.specs.Prelude.{◌≡◌, not, [], ◌∷◌, ◌<◌};
 ghost use Rattle.message.specs.Lists.{is_empty};
 ghost use Rattle.message.specs.Map.{intervals, pendings_to};
 ghost use Rattle.message.specs.Reading.{read_of, map_of};
-ghost use Rattle.message.specs.declared.reading.Verdict.TheVariants.{Accepted};
 ghost use Rattle.hearing.specs.Opportunities.{contention};
 ghost use Rattle.hearing.specs.Scan.{first_of, grants, found_in, waiting_with, apart};
 ghost use Rattle.hearing.specs.Steps.{passing};
 
-use crate::answer::Sent;
 use message::{Reading, element_at};
 use rules::{Element, granting};
 use slots::MiniSlot;
@@ -20,17 +18,17 @@ use station::Phase;
 #[derive(Clone, Copy)]
 pub(crate) struct Found {
     pub bursts: u32,
-    pub own: Sent,
+    pub own: Option<MiniSlot>,
 }
 
 const BROADCAST: u32 = 0x3FFF;
 
-fn first_of(own: Sent, time: MiniSlot) -> Sent
+fn first_of(own: Option<MiniSlot>, time: MiniSlot) -> Option<MiniSlot>
     ensures { result ≡ first_of own (time.0 ∷ []) }
 {
     match own {
-        Sent::Nothing => Sent::At(time),
-        Sent::At(before) => Sent::At(before),
+        None => Some(time),
+        Some(before) => Some(before),
     }
 }
 
@@ -56,14 +54,14 @@ fn noted(found: Found, e: Element, length: u32, start: MiniSlot, r: u32) -> Foun
 }
 
 pub(crate) fn find(bytes: &[u8], reading: Reading, sid: u32, r: u32) -> Found
-    requires { read_of bytes.now ≡ Accepted reading }
-    ensures { result ≡ found_in reading.fields.start.0 sid r (record { bursts = 0; own = Sent.Nothing }) (intervals (map_of bytes.now).elements) }
+    requires { read_of bytes.now ≡ Ok reading }
+    ensures { result ≡ found_in reading.fields.start.0 sid r (record { bursts = 0; own = None }) (intervals (map_of bytes.now).elements) }
 {
     let fields = reading.fields;
     let start = fields.start;
     let mut found = Found {
         bursts: 0,
-        own: Sent::Nothing,
+        own: None,
     };
     let mut i: u32 = 0;
     let out = loop {
@@ -88,7 +86,7 @@ fn granted_to(e: Element, sid: u32) -> bool
 
 // Whether a pending for the SID follows the Null.
 fn pending(bytes: &[u8], reading: Reading, sid: u32) -> bool
-    requires { read_of bytes.now ≡ Accepted reading }
+    requires { read_of bytes.now ≡ Ok reading }
     ensures { result ≡ not (is_empty (pendings_to sid (map_of bytes.now).elements)) }
 {
     let mut i: u32 = reading.null + 1;
@@ -106,7 +104,7 @@ fn pending(bytes: &[u8], reading: Reading, sid: u32) -> bool
 
 // "Waiting with a pending": only a station that waits asks for one.
 pub(crate) fn waiting_with_pending(bytes: &[u8], reading: Reading, sid: u32, phase: Phase) -> bool
-    requires { read_of bytes.now ≡ Accepted reading }
+    requires { read_of bytes.now ≡ Ok reading }
     ensures { result ≡ waiting_with (not (is_empty (pendings_to sid (map_of bytes.now).elements))) phase }
 {
     match phase {
@@ -166,7 +164,7 @@ pub(crate) fn pass(
     retries: u32,
     size: u32,
 ) -> Phase
-    requires { read_of bytes.now ≡ Accepted reading }
+    requires { read_of bytes.now ≡ Ok reading }
     ensures { result ≡ passing (contention r (map_of bytes.now)) exponent left retries size }
 {
     let fields = reading.fields;

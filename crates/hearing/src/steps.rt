@@ -1,14 +1,13 @@
 // The first and the last step of an accepted MAP on a station's phase.
 ghost use Rattle.std.specs.Prelude.{◌≡◌};
 ghost use Rattle.message.specs.Reading.{read_of, map_of};
-ghost use Rattle.message.specs.declared.reading.Verdict.TheVariants.{Accepted};
 ghost use Rattle.hearing.specs.Opportunities.{contention, own};
 ghost use Rattle.hearing.specs.Scan.{first_of};
 ghost use Rattle.hearing.specs.Steps.{granted, sending, waiting_since, sent_by};
 
-use crate::answer::Sent;
 use crate::opportunity::{pass, sent_at};
 use message::Reading;
+use slots::MiniSlot;
 use station::{Phase, Station};
 
 // 1. There is a grant.
@@ -36,10 +35,10 @@ pub(crate) fn after_deferring(
     st: Station,
     bytes: &[u8],
     reading: Reading,
-    first: Sent,
+    first: Option<MiniSlot>,
     phase: Phase,
 ) -> Phase
-    requires { (read_of bytes.now ≡ Accepted reading) × (first ≡ first_of Sent.Nothing (own st.sid st.r (map_of bytes.now))) }
+    requires { (read_of bytes.now ≡ Ok reading) × (first ≡ first_of None (own st.sid st.r (map_of bytes.now))) }
     ensures { result ≡ sending (own st.sid st.r (map_of bytes.now)) (contention st.r (map_of bytes.now)) phase }
 {
     match phase {
@@ -49,14 +48,14 @@ pub(crate) fn after_deferring(
             retries,
             size,
         } => match first {
-            Sent::At(time) => sent_at(exponent, retries, time, size),
-            Sent::Nothing => pass(bytes, reading, st.r, exponent, left, retries, size),
+            Some(time) => sent_at(exponent, retries, time, size),
+            None => pass(bytes, reading, st.r, exponent, left, retries, size),
         },
         _ => phase,
     }
 }
 
-fn waiting_since(phase: Phase) -> Sent
+fn waiting_since(phase: Phase) -> Option<MiniSlot>
     ensures { result ≡ waiting_since phase }
 {
     match phase {
@@ -65,13 +64,13 @@ fn waiting_since(phase: Phase) -> Sent
             retries,
             time,
             size,
-        } => Sent::At(time),
-        _ => Sent::Nothing,
+        } => Some(time),
+        _ => None,
     }
 }
 
 // The request of step 4, by the phases before and after it.
-pub(crate) fn sent_by(before: Phase, after: Phase) -> Sent
+pub(crate) fn sent_by(before: Phase, after: Phase) -> Option<MiniSlot>
     ensures { result ≡ sent_by before after }
 {
     match before {
@@ -81,6 +80,6 @@ pub(crate) fn sent_by(before: Phase, after: Phase) -> Sent
             retries,
             size,
         } => waiting_since(after),
-        _ => Sent::Nothing,
+        _ => None,
     }
 }

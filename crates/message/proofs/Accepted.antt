@@ -85,7 +85,7 @@ module _ (a b : ℕ) where
   whole_step i p e es w = go (fault_of p e) refl w
     where
       go : (f : Result Unit Reason) → fault_of p e ≡ f → unless f i (walked (i + 1) (advanced p e i) es) ≡ as_whole a b → Passes p e × (walked (i + 1) (advanced p e i) es ≡ as_whole a b)
-      go (Ok tt) h v = (passes p e h, v)
+      go (Ok u) h v = (passes p e h, v)
       go (Err why) h v = let z : ◌≡◌ {A = ℕ} 0 1 = cc in absurd (omega arith)
 
   -- after the Null nothing moves any more
@@ -302,7 +302,7 @@ accepted s reading w = header (header_fault s) refl w
 
     header : (f : Result Unit Reason) → header_fault s ≡ f → unless f 0 (reading_of (map_of s).fields (count_of s) (walked 0 nothing_yet (map_of s).elements)) ≡ Ok reading → Accept s reading
     header (Err why) h x = let z : ◌≡◌ {A = ℕ} 0 1 = cc in absurd (omega arith)
-    header (Ok tt) h x = whole (header_sound s h) (walked 0 nothing_yet (map_of s).elements) refl x
+    header (Ok u) h x = whole (header_sound s h) (walked 0 nothing_yet (map_of s).elements) refl x
 
 -- what a check that says no more than the bytes don't tell leaves of the reading
 module _ (s : List ℕ) (c : Result Checked Refusal) (is : c ≡ checked_by (read_of s)) where

@@ -109,7 +109,7 @@ module _ (p : Progress) (e : Element) where
     fault_closed c g = rw (fault_after, ← is, c, g) (go f)
       where
         go : (n : Result Unit Reason) → n ≡ then n (Ok tt)
-        go (Ok tt) = refl
+        go (Ok u) = refl
         go (Err why) = refl
 
   pub no_fault : unknown_use e ≡ false → misordered p e ≡ false → wrong_sid e ≡ false → misplaced p e ≡ false → too_far p e ≡ false → grant_too_long p e ≡ false → Ok tt ≡ fault_of p e

@@ -1,8 +1,11 @@
-use Rattle.hearing.proofs.Ways.{hear_record, hear_message}
+use Rattle.hearing.proofs.Ways.{unheard_hear, heard_read, heard_hear}
 use Rattle.hearing.proofs.hearing.hear.Goals as goal
 
-pub returns-then-f-ne0 : goal.returns-then-f-ne0
-returns-then-f-ne0 c = search hear_record
+pub heard-requires : goal.heard-requires
+heard-requires c = search heard_read
 
-pub returns : goal.returns
-returns c = search hear_message
+pub returns-in-Err : goal.returns-in-Err
+returns-in-Err c = search unheard_hear
+
+pub returns-in-Ok : goal.returns-in-Ok
+returns-in-Ok c = search heard_hear

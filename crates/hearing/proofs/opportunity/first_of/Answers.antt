@@ -1,8 +1,8 @@
 use Rattle.hearing.proofs.Scanning.{scan_ways}
 use Rattle.hearing.proofs.opportunity.first_of.Goals as goal
 
-pub returns-in-Nothing : goal.returns-in-Nothing
-returns-in-Nothing c = search scan_ways
+pub returns-in-None : goal.returns-in-None
+returns-in-None c = search scan_ways
 
-pub returns-in-At : goal.returns-in-At
-returns-in-At c = search scan_ways
+pub returns-in-Some : goal.returns-in-Some
+returns-in-Some c = search scan_ways
