@@ -68,10 +68,12 @@ pub fn with_places(
     }
 }
 
-// The requests held: of a record handed in, never more than there are places.
-pub(crate) fn held_of(h: &Headend) -> &[Request]
-    ensures { result.now ≡ held_of h.now }
-{
-    let n = h.held.min(Headend::MOST_HELD) as usize;
-    &h.requests[..n]
+impl Headend {
+    // The requests held: of a record handed in, never more than there are places.
+    pub fn held_requests(&self) -> &[Request]
+        ensures { result.now ≡ held_of self.now }
+    {
+        let n = self.held.min(Headend::MOST_HELD) as usize;
+        &self.requests[..n]
+    }
 }

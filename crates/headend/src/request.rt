@@ -4,7 +4,7 @@ ghost use Rattle.std.specs.List.{list_any};
 ghost use Rattle.slots.specs.Time.{earlier};
 ghost use Rattle.headend.specs.Records.{request_fault, joined, request_of};
 
-use crate::record::{Headend, Request, Taken, Taking, held_of, with_places};
+use crate::record::{Headend, Request, Taken, Taking, with_places};
 use crate::setup::{outside, record_fault};
 use rules::Refusal;
 use slots::MiniSlot;
@@ -40,7 +40,7 @@ fn request_fault(h: Headend, q: Request) -> u32
     if not_earlier(q.first, h.next) {
         return Refusal::UNANNOUNCED;
     }
-    if any_of(q.sid, held_of(&h)) {
+    if any_of(q.sid, h.held_requests()) {
         return Refusal::HELD;
     }
     if Headend::MOST_HELD <= h.held {

@@ -4,7 +4,7 @@ ghost use Rattle.std.specs.List.{list_any};
 ghost use Rattle.rules.specs.Sids.{within, unicast};
 ghost use Rattle.headend.specs.Records.{set_up_of, bad_size, record_fault};
 
-use crate::record::{Headend, Request, held_of};
+use crate::record::{Headend, Request};
 use rules::{Backoff, Refusal, within};
 use slots::MiniSlot;
 
@@ -73,7 +73,7 @@ fn any_bad_size(held: &[Request]) -> bool
 pub fn record_fault(h: Headend) -> u32
     ensures { result ≡ record_fault h }
 {
-    let held = held_of(&h);
+    let held = h.held_requests();
     if h.ranging.bad() {
         return Refusal::BACKOFF;
     }
