@@ -1,10 +1,11 @@
 -- The ways through set-up, the check of a record, and a request: one law each, about the definitions only.
 use mathlib.Core.Path.{◌≡◌, refl, sym, ◌∙◌}
+use Rattle.std.proofs.Common.{Ok, Err}
+use Rattle.std.specs.List.{list_any}
 use mathlib.Core.Bool.{Bool, true, false, cond, not, ◌||◌}
 use mathlib.Core.List.{List}
-use Prim.Native.Nat.{ℕ, ◌+◌, min, ◌≤◌, ◌<◌}
+use Prim.Native.Nat.{ℕ, ◌≤◌, ◌<◌}
 use lib.Dec.{leb, ltb, eqb}
-use lib.ListN.{set}
 use borrow.Author.Tests.{lt-ltb, le-ltb, le-leb, lt-leb, eq-eqb, ne_eqb, not-true, not-false, ltb-false, leb-false, eqb-true, eqb-false}
 use Rattle.slots.specs.declared.time.MiniSlot.{MiniSlot}
 use Rattle.slots.specs.Time.{earlier}
@@ -13,40 +14,25 @@ use Rattle.rules.specs.Backoffs.{bad_backoff}
 use Rattle.rules.specs.Sids.{unicast}
 use Rattle.message.proofs.Ways.{said, said_not, passed}
 use Rattle.headend.specs.declared.record.Headend.{Headend}
-use Rattle.headend.specs.declared.record.SetUp.{SetUp}
 use Rattle.headend.specs.declared.record.Taken.TheVariants as taken
-use Rattle.headend.specs.Requests.{Request, request_at, held_of}
-use Rattle.headend.specs.Records.{fresh, with_places, none, set_up_of, any, bad_size, record_fault, request_fault, joined, request_of}
-use Rattle.headend.specs.Scan.{first_of, any_outside, any_is}
-use Rattle.headend.proofs.Scans.{any_map}
+use Rattle.headend.specs.declared.record.Request.{Request}
+use Rattle.headend.specs.Requests.{held_of}
+use Rattle.headend.specs.Records.{fresh, set_up_of, bad_size, record_fault, request_fault, joined, request_of}
 
-module _ (next : MiniSlot) (channel count : ℕ) (ranging data_backoff : Backoff) (short : ℕ) (r : SetUp) (h : Headend) where
-  pub new_ranging : bad_backoff ranging ≡ true → h ≡ none → r ≡ record { refusal = record { number = 4; element = 0 }; headend = h } → r ≡ set_up_of next channel count ranging data_backoff short
+module _ (next : MiniSlot) (channel count : ℕ) (ranging data_backoff : Backoff) (short : ℕ) where
+  pub new_ranging : bad_backoff ranging ≡ true → Err (record { number = 4; element = 0 }) ≡ set_up_of next channel count ranging data_backoff short
   unfolding set_up_of
-  new_ranging a e f = rw (a, ← e) f
+  new_ranging a = rw a refl
 
-  pub new_data : bad_backoff ranging ≡ false → bad_backoff data_backoff ≡ true → h ≡ none → r ≡ record { refusal = record { number = 4; element = 0 }; headend = h } → r ≡ set_up_of next channel count ranging data_backoff short
+  pub new_data : bad_backoff ranging ≡ false → bad_backoff data_backoff ≡ true → Err (record { number = 4; element = 0 }) ≡ set_up_of next channel count ranging data_backoff short
   unfolding set_up_of
-  new_data a b e f = rw (a, b, ← e) f
+  new_data a b = rw (a, b) refl
 
-  pub new_good : bad_backoff ranging ≡ false → bad_backoff data_backoff ≡ false → h ≡ fresh next channel count ranging data_backoff short → r ≡ record { refusal = record { number = 0; element = 0 }; headend = h } → r ≡ set_up_of next channel count ranging data_backoff short
+  pub new_good : bad_backoff ranging ≡ false → bad_backoff data_backoff ≡ false → Ok (fresh next channel count ranging data_backoff short) ≡ set_up_of next channel count ranging data_backoff short
   unfolding set_up_of
-  new_good a b e f = rw (a, b, ← e) f
+  new_good a b = rw (a, b) refl
 
--- the tests of the requests held, by the numbers in their places
-module _ (h : Headend) (n : ℕ) (is : n ≡ min h.held 64) where
-  sid_test : any (λ q. not (unicast q.sid)) (held_of h) ≡ any_outside 0x0001 0x1FFF (first_of n h.sids)
-  unfolding held_of
-  sid_test = rw is (any_map (λ (q : Request). q.sid) (λ (x : ℕ). not (unicast x)) (request_at h) 0 (min h.held 64))
-
-  size_test : any (λ q. bad_size q.size) (held_of h) ≡ any_outside 1 255 (first_of n h.sizes)
-  unfolding held_of
-  size_test = rw is (any_map (λ (q : Request). q.size) bad_size (request_at h) 0 (min h.held 64))
-
-  same_test : (sid : ℕ) → any (λ p. eqb p.sid sid) (held_of h) ≡ any_is sid (first_of n h.sids)
-  unfolding held_of
-  same_test sid = rw is (any_map (λ (q : Request). q.sid) (λ (x : ℕ). eqb x sid) (request_at h) 0 (min h.held 64))
-
+module _ (h : Headend) where
   pub record_ranging : bad_backoff h.ranging ≡ true → 4 ≡ record_fault h
   unfolding record_fault
   record_ranging a = rw a refl
@@ -57,22 +43,23 @@ module _ (h : Headend) (n : ℕ) (is : n ≡ min h.held 64) where
     record_data b = rw (a, b) refl
 
     module _ (b : bad_backoff h.«data» ≡ false) where
-      pub record_sid : any_outside 0x0001 0x1FFF (first_of n h.sids) ≡ true → 6 ≡ record_fault h
-      unfolding record_fault
-      record_sid e = rw (a, b, sid_test, e) refl
-
-      module _ (e : any_outside 0x0001 0x1FFF (first_of n h.sids) ≡ false) where
-        pub record_many : 64 < h.held → 17 ≡ record_fault h
+      module _ (held : List Request) (is : held ≡ held_of h) where
+        pub record_sid : list_any (λ q. not (unicast q.sid)) held ≡ true → 6 ≡ record_fault h
         unfolding record_fault
-        record_many f = rw (a, b, sid_test, e, lt-ltb 64 h.held f) refl
+        record_sid e = rw (a, b, ← is, e) refl
 
-        pub record_size : h.held ≤ 64 → any_outside 1 255 (first_of n h.sizes) ≡ true → 17 ≡ record_fault h
-        unfolding record_fault
-        record_size f g = rw (a, b, sid_test, e, le-ltb 64 h.held f, size_test, g) refl
+        module _ (e : list_any (λ q. not (unicast q.sid)) held ≡ false) where
+          pub record_many : 64 < h.held → 17 ≡ record_fault h
+          unfolding record_fault
+          record_many f = rw (a, b, ← is, e, lt-ltb 64 h.held f) refl
 
-        pub record_good : h.held ≤ 64 → any_outside 1 255 (first_of n h.sizes) ≡ false → 0 ≡ record_fault h
-        unfolding record_fault
-        record_good f g = rw (a, b, sid_test, e, le-ltb 64 h.held f, size_test, g) refl
+          pub record_size : h.held ≤ 64 → list_any (λ q. bad_size q.size) held ≡ true → 17 ≡ record_fault h
+          unfolding record_fault
+          record_size f g = rw (a, b, ← is, e, le-ltb 64 h.held f, g) refl
+
+          pub record_good : h.held ≤ 64 → list_any (λ q. bad_size q.size) held ≡ false → 0 ≡ record_fault h
+          unfolding record_fault
+          record_good f g = rw (a, b, ← is, e, le-ltb 64 h.held f, g) refl
 
 module _ (h : Headend) (q : Request) (k : ℕ) (is : k ≡ record_fault h) where
   pub request_record : (k ≡ 0 → ⊥) → k ≡ request_fault h q
@@ -93,28 +80,29 @@ module _ (h : Headend) (q : Request) (k : ℕ) (is : k ≡ record_fault h) where
       request_size b = rw (good', a, b) refl
 
       module _ (b : bad_size q.size ≡ false) where
-        pub request_passed : earlier 32 q.first h.ack.0 ≡ true → 20 ≡ request_fault h q
+        pub request_passed : earlier 32 q.first.0 h.ack.0 ≡ true → 20 ≡ request_fault h q
         unfolding request_fault
         request_passed e = rw (good', a, b, e) refl
 
-        module _ (e : earlier 32 q.first h.ack.0 ≡ false) where
-          pub request_early : not (earlier 32 q.first h.next.0) ≡ true → 21 ≡ request_fault h q
+        module _ (e : earlier 32 q.first.0 h.ack.0 ≡ false) where
+          pub request_early : not (earlier 32 q.first.0 h.next.0) ≡ true → 21 ≡ request_fault h q
           unfolding request_fault
           request_early f = rw (good', a, b, e, f) refl
 
-          module _ (f : not (earlier 32 q.first h.next.0) ≡ false) (n : ℕ) (many : n ≡ min h.held 64) where
-            pub request_held : any_is q.sid (first_of n h.sids) ≡ true → 18 ≡ request_fault h q
-            unfolding request_fault
-            request_held g = rw (good', a, b, e, f, same_test h n many q.sid, g) refl
-
-            module _ (g : any_is q.sid (first_of n h.sids) ≡ false) where
-              pub request_full : 64 ≤ h.held → 19 ≡ request_fault h q
+          module _ (f : not (earlier 32 q.first.0 h.next.0) ≡ false) where
+            module _ (held : List Request) (all : held ≡ held_of h) where
+              pub request_held : list_any (λ p. eqb p.sid q.sid) held ≡ true → 18 ≡ request_fault h q
               unfolding request_fault
-              request_full l = rw (good', a, b, e, f, same_test h n many q.sid, g, le-leb 64 h.held l) refl
+              request_held g = rw (good', a, b, e, f, ← all, g) refl
 
-              pub request_good : h.held < 64 → 0 ≡ request_fault h q
-              unfolding request_fault
-              request_good l = rw (good', a, b, e, f, same_test h n many q.sid, g, lt-leb 64 h.held l) refl
+              module _ (g : list_any (λ p. eqb p.sid q.sid) held ≡ false) where
+                pub request_full : 64 ≤ h.held → 19 ≡ request_fault h q
+                unfolding request_fault
+                request_full l = rw (good', a, b, e, f, ← all, g, le-leb 64 h.held l) refl
+
+                pub request_good : h.held < 64 → 0 ≡ request_fault h q
+                unfolding request_fault
+                request_good l = rw (good', a, b, e, f, ← all, g, lt-leb 64 h.held l) refl
 
 -- a cascade that ends in 0 has passed a number that it hands on
 pub handed_on : (k x : ℕ) → cond (not (eqb k 0)) k x ≡ 0 → (k ≡ 0) × (x ≡ 0)
@@ -127,17 +115,17 @@ handed_on k x e = go (eqb k 0) refl
 -- what a record without a fault is
 pub record Valid (h : Headend) : Type 0 where
   pub backoffs : (bad_backoff h.ranging || bad_backoff h.«data») ≡ false
-  pub sids : any (λ q. not (unicast q.sid)) (held_of h) ≡ false
+  pub sids : list_any (λ q. not (unicast q.sid)) (held_of h) ≡ false
   pub few : h.held ≤ 64
-  pub sizes : any (λ q. bad_size q.size) (held_of h) ≡ false
+  pub sizes : list_any (λ q. bad_size q.size) (held_of h) ≡ false
 
 pub record_valid : (h : Headend) → record_fault h ≡ 0 → Valid h
 unfolding record_fault
 record_valid h e =
     let one = passed (bad_backoff h.ranging || bad_backoff h.«data») 3 _ e in
-    let two = passed (any (λ q. not (unicast q.sid)) (held_of h)) 5 _ one.1 in
+    let two = passed (list_any (λ q. not (unicast q.sid)) (held_of h)) 5 _ one.1 in
     let three = passed (ltb 64 h.held) 16 _ two.1 in
-    let four = passed (any (λ q. bad_size q.size) (held_of h)) 16 0 three.1 in
+    let four = passed (list_any (λ q. bad_size q.size) (held_of h)) 16 0 three.1 in
     record { backoffs = one.0; sids = two.0; few = ltb-false 64 h.held three.0; sizes = four.0 }
 
 -- what a request without a fault is
@@ -145,9 +133,9 @@ pub record Welcome (h : Headend) (q : Request) : Type 0 where
   pub known : record_fault h ≡ 0
   pub unicasts : unicast q.sid ≡ true
   pub fits : bad_size q.size ≡ false
-  pub current : earlier 32 q.first h.ack.0 ≡ false
-  pub announced : earlier 32 q.first h.next.0 ≡ true
-  pub new : any (λ p. eqb p.sid q.sid) (held_of h) ≡ false
+  pub current : earlier 32 q.first.0 h.ack.0 ≡ false
+  pub announced : earlier 32 q.first.0 h.next.0 ≡ true
+  pub new : list_any (λ p. eqb p.sid q.sid) (held_of h) ≡ false
   pub few : h.held < 64
 
 pub request_welcome : (h : Headend) (q : Request) → request_fault h q ≡ 0 → Welcome h q
@@ -156,18 +144,14 @@ request_welcome h q e =
     let zero = handed_on (record_fault h) _ e in
     let one = passed (not (unicast q.sid)) 5 _ zero.1 in
     let two = passed (bad_size q.size) 16 _ one.1 in
-    let three = passed (earlier 32 q.first h.ack.0) 19 _ two.1 in
-    let four = passed (not (earlier 32 q.first h.next.0)) 20 _ three.1 in
-    let five = passed (any (λ p. eqb p.sid q.sid) (held_of h)) 17 _ four.1 in
+    let three = passed (earlier 32 q.first.0 h.ack.0) 19 _ two.1 in
+    let four = passed (not (earlier 32 q.first.0 h.next.0)) 20 _ three.1 in
+    let five = passed (list_any (λ p. eqb p.sid q.sid) (held_of h)) 17 _ four.1 in
     let six = passed (leb 64 h.held) 18 0 five.1 in
-    record { known = zero.0; unicasts = not-false (unicast q.sid) one.0; fits = two.0; current = three.0; announced = not-false (earlier 32 q.first h.next.0) four.0; new = five.0; few = leb-false 64 h.held six.0 }
+    record { known = zero.0; unicasts = not-false (unicast q.sid) one.0; fits = two.0; current = three.0; announced = not-false (earlier 32 q.first.0 h.next.0) four.0; new = five.0; few = leb-false 64 h.held six.0 }
 
 pub few_held : (h : Headend) (q : Request) (k : ℕ) → k ≡ request_fault h q → k ≡ 0 → h.held < 64
 few_held h q k is z = (request_welcome h q (sym is ∙ z)).few
-
-pub joins : (h : Headend) (q : Request) (r : Headend) (sids sizes firsts : List ℕ) → sids ≡ set h.sids h.held q.sid → sizes ≡ set h.sizes h.held q.size → firsts ≡ set h.firsts h.held q.first → r ≡ with_places h h.next h.ack (h.held + 1) sids sizes firsts → r ≡ joined h q
-unfolding joined
-joins h q r sids sizes firsts a b d e = rw (← a, ← b, ← d) e
 
 module _ (h : Headend) (q : Request) (k : ℕ) (is : k ≡ request_fault h q) where
   pub request_refused : (k ≡ 0 → ⊥) → record { headend = h; answer = taken.Refused (record { number = k; element = 0 }) } ≡ request_of h q

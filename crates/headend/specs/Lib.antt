@@ -1,3 +1,2 @@
 pub mod Requests
 pub mod Records
-pub mod Scan

@@ -1,17 +1,19 @@
 -- Document 01, "The headend" and "Refusal numbers": set-up, the record handed in, and requests.
-use Rattle.std.specs.Prelude.{ℕ, ◌+◌, Bool, false, cond, not, ◌||◌, List, [], ◌∷◌, leb, ltb, eqb, set, replicate}
+use Rattle.std.specs.Prelude.{ℕ, ◌+◌, Bool, cond, not, ◌||◌, List, Result, Ok, Err, leb, ltb, eqb, set, replicate}
+use Rattle.std.specs.List.{list_any}
 use Rattle.slots.specs.declared.time.MiniSlot.{MiniSlot}
 use Rattle.slots.specs.Time.{earlier}
 use Rattle.rules.specs.declared.fields.Backoff.{Backoff}
 use Rattle.rules.specs.Backoffs.{bad_backoff}
 use Rattle.rules.specs.Sids.{within, unicast}
+use Rattle.rules.specs.declared.refusal.Refusal.{Refusal}
 use Rattle.rules.specs.Refusals as refusals
 use Rattle.rules.specs.Refusals.{Sid, Size, Passed, Unannounced, Held, Full, number_of, refusal}
+use Rattle.headend.specs.declared.record.Request.{Request}
 use Rattle.headend.specs.declared.record.Headend.{Headend}
-use Rattle.headend.specs.declared.record.SetUp.{SetUp}
 use Rattle.headend.specs.declared.record.Taking.{Taking}
 use Rattle.headend.specs.declared.record.Taken.TheVariants as taken
-use Rattle.headend.specs.Requests.{Request, held_of}
+use Rattle.headend.specs.Requests.{spare, held_of}
 
 -- "Set up with a next start (also its first Ack Time), channel, UCD count, backoffs and a short-grant limit"
 abbrev pub fresh : MiniSlot → ℕ → ℕ → Backoff → Backoff → ℕ → Headend
@@ -24,14 +26,12 @@ fresh next channel count ranging data_backoff short = record {
   «data» = data_backoff;
   short = short;
   held = 0;
-  sids = replicate 64 0;
-  sizes = replicate 64 0;
-  firsts = replicate 64 0;
+  requests = replicate 64 spare;
 }
 
 -- other times and other requests held; the set-up stays
-unfoldable pub with_places : Headend → MiniSlot → MiniSlot → ℕ → List ℕ → List ℕ → List ℕ → Headend
-with_places h next ack held sids sizes firsts = record {
+unfoldable pub with_places : Headend → MiniSlot → MiniSlot → ℕ → List Request → Headend
+with_places h next ack held requests = record {
   next = next;
   ack = ack;
   channel = h.channel;
@@ -40,25 +40,14 @@ with_places h next ack held sids sizes firsts = record {
   «data» = h.«data»;
   short = h.short;
   held = held;
-  sids = sids;
-  sizes = sizes;
-  firsts = firsts;
+  requests = requests;
 }
 
-abbrev pub none : Headend
-none = fresh (record { 0 = 0 }) 0 0 (record { start = 0; end = 0 }) (record { start = 0; end = 0 }) 0
-
 -- "of a headend: 4"
-unfoldable pub set_up_of : MiniSlot → ℕ → ℕ → Backoff → Backoff → ℕ → SetUp
+unfoldable pub set_up_of : MiniSlot → ℕ → ℕ → Backoff → Backoff → ℕ → Result Headend Refusal
 set_up_of next channel count ranging data_backoff short =
-    cond (bad_backoff ranging || bad_backoff data_backoff) (record { refusal = refusal (number_of refusals.Backoff) 0; headend = none })
-    (record { refusal = refusal 0 0; headend = fresh next channel count ranging data_backoff short })
-
--- whether any of these passes a test
-module _ {A : Type 0} where
-  unfoldable pub any : (A → Bool) → List A → Bool
-  any p [] = false
-  any p (x ∷ xs) = p x || any p xs
+    cond (bad_backoff ranging || bad_backoff data_backoff) (Err (refusal (number_of refusals.Backoff) 0))
+    (Ok (fresh next channel count ranging data_backoff short))
 
 -- 17: "packet or request not 1..255"
 abbrev pub bad_size : ℕ → Bool
@@ -68,9 +57,9 @@ bad_size size = not (within 1 255 size)
 unfoldable pub record_fault : Headend → ℕ
 record_fault h =
     cond (bad_backoff h.ranging || bad_backoff h.«data») (number_of refusals.Backoff)
-    (cond (any (λ q. not (unicast q.sid)) (held_of h)) (number_of Sid)
+    (cond (list_any (λ q. not (unicast q.sid)) (held_of h)) (number_of Sid)
     (cond (ltb 64 h.held) (number_of Size)
-    (cond (any (λ q. bad_size q.size) (held_of h)) (number_of Size) 0)))
+    (cond (list_any (λ q. bad_size q.size) (held_of h)) (number_of Size) 0)))
 
 -- the record's own; then "Request: 6, 17, 20, 21, 18, 19"
 unfoldable pub request_fault : Headend → Request → ℕ
@@ -78,14 +67,14 @@ request_fault h q =
     cond (not (eqb (record_fault h) 0)) (record_fault h)
     (cond (not (unicast q.sid)) (number_of Sid)
     (cond (bad_size q.size) (number_of Size)
-    (cond (earlier 32 q.first h.ack.0) (number_of Passed)
-    (cond (not (earlier 32 q.first h.next.0)) (number_of Unannounced)
-    (cond (any (λ p. eqb p.sid q.sid) (held_of h)) (number_of Held)
+    (cond (earlier 32 q.first.0 h.ack.0) (number_of Passed)
+    (cond (not (earlier 32 q.first.0 h.next.0)) (number_of Unannounced)
+    (cond (list_any (λ p. eqb p.sid q.sid) (held_of h)) (number_of Held)
     (cond (leb 64 h.held) (number_of Full) 0))))))
 
 -- "a request that isn't refused joins them, last"
 unfoldable pub joined : Headend → Request → Headend
-joined h q = with_places h h.next h.ack (h.held + 1) (set h.sids h.held q.sid) (set h.sizes h.held q.size) (set h.firsts h.held q.first)
+joined h q = with_places h h.next h.ack (h.held + 1) (set h.requests h.held q)
 
 unfoldable pub request_of : Headend → Request → Taking
 request_of h q =

@@ -1,12 +1,20 @@
-// The headend's record. The held requests stand in three arrays of numbers, SIDs, sizes and first
-// mini-slots, in the order taken: an array of numbers can be lent to a function, and one of structs
-// only copied. Places from `held` on are spare.
+// The headend's record.
 ghost use Rattle.std.specs.Prelude.{◌≡◌};
+ghost use Rattle.headend.specs.Requests.{spare, held_of};
 ghost use Rattle.headend.specs.Records.{with_places};
 
 use rules::{Backoff, Refusal};
 use slots::MiniSlot;
 
+// A request: who, for how many mini-slots, and sent in which.
+#[derive(Clone, Copy)]
+pub struct Request {
+    pub sid: u32,
+    pub size: u32,
+    pub first: MiniSlot,
+}
+
+// The requests held stand in the order taken. Places from `held` on are spare.
 #[derive(Clone, Copy)]
 pub struct Headend {
     pub next: MiniSlot,
@@ -17,17 +25,7 @@ pub struct Headend {
     pub data: Backoff,
     pub short: u32,
     pub held: u32,
-    pub sids: [u32; 64],
-    pub sizes: [u32; 64],
-    pub firsts: [u32; 64],
-}
-
-// What set-up gives. The refusal stands beside the record, as an enum holds no array; where it is
-// not 0 the record is all zero.
-#[derive(Clone, Copy)]
-pub struct SetUp {
-    pub refusal: Refusal,
-    pub headend: Headend,
+    pub requests: [Request; 64],
 }
 
 #[derive(Clone, Copy)]
@@ -42,31 +40,40 @@ pub struct Taking {
     pub answer: Taken,
 }
 
+impl Request {
+    // What stands in a spare place.
+    pub const SPARE: Request = Request {
+        sid: 0,
+        size: 0,
+        first: MiniSlot(0),
+    };
+}
+
 // The record with other times and other places held, its set-up as it was.
 pub fn with_places(
     h: Headend,
     next: MiniSlot,
     ack: MiniSlot,
     held: u32,
-    sids: [u32; 64],
-    sizes: [u32; 64],
-    firsts: [u32; 64],
+    requests: [Request; 64],
 ) -> Headend
-    ensures { result ≡ with_places h next ack held sids sizes firsts }
+    ensures { result ≡ with_places h next ack held requests }
 {
-    let ranging = h.ranging;
-    let data = h.data;
     Headend {
         next,
         ack,
-        channel: h.channel,
-        count: h.count,
-        ranging,
-        data,
-        short: h.short,
         held,
-        sids,
-        sizes,
-        firsts,
+        requests,
+        ..h
+    }
+}
+
+impl Headend {
+    // The requests held: of a record handed in, never more than there are places.
+    pub fn held_requests(&self) -> &[Request]
+        ensures { result.now ≡ held_of self.now }
+    {
+        let n = self.held.min(Headend::MOST_HELD) as usize;
+        &self.requests[..n]
     }
 }

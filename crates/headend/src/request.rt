@@ -1,26 +1,18 @@
 // A request taken.
-ghost use Rattle.std.specs.Prelude.{◌≡◌, not, ◌≤◌, ◌<◌, set};
+ghost use Rattle.std.specs.Prelude.{◌≡◌, not, ◌<◌, eqb};
+ghost use Rattle.std.specs.List.{list_any};
 ghost use Rattle.slots.specs.Time.{earlier};
 ghost use Rattle.headend.specs.Records.{request_fault, joined, request_of};
-ghost use Rattle.headend.specs.Scan.{first_of, any_is};
 
-use crate::record::{Headend, Taken, Taking, with_places};
-use crate::setup::{outside, places, record_fault};
+use crate::record::{Headend, Request, Taken, Taking, with_places};
+use crate::setup::{outside, record_fault};
 use rules::Refusal;
 use slots::MiniSlot;
 
-fn any_is(x: u32, numbers: &[u32; 64], n: u32) -> bool
-    requires { n ≤ 64 }
-    ensures { result ≡ any_is x (first_of n numbers.now) }
+fn any_of(sid: u32, held: &[Request]) -> bool
+    ensures { result ≡ list_any (λ q. eqb q.sid sid) held.now }
 {
-    let mut i = 0;
-    while i < n {
-        if numbers[i as usize] == x {
-            return true;
-        }
-        i += 1;
-    }
-    false
+    held.iter().any(|q| q.sid == sid)
 }
 
 fn not_earlier(time: MiniSlot, other: MiniSlot) -> bool
@@ -29,29 +21,26 @@ fn not_earlier(time: MiniSlot, other: MiniSlot) -> bool
     !time.earlier(other)
 }
 
-fn request_fault(h: Headend, sid: u32, size: u32, first: MiniSlot) -> u32
-    ensures { result ≡ request_fault h (record { sid = sid; size = size; first = first.0 }) }
+fn request_fault(h: Headend, q: Request) -> u32
+    ensures { result ≡ request_fault h q }
 {
-    let ack = h.ack;
-    let next = h.next;
-    let sids = h.sids;
     let number = record_fault(h);
     if number != 0 {
         return number;
     }
-    if outside(0x0001, 0x1FFF, sid) {
+    if outside(0x0001, 0x1FFF, q.sid) {
         return Refusal::SID;
     }
-    if outside(1, Headend::LONGEST_GRANT, size) {
+    if outside(1, Headend::LONGEST_GRANT, q.size) {
         return Refusal::SIZE;
     }
-    if first.earlier(ack) {
+    if q.first.earlier(h.ack) {
         return Refusal::PASSED;
     }
-    if not_earlier(first, next) {
+    if not_earlier(q.first, h.next) {
         return Refusal::UNANNOUNCED;
     }
-    if any_is(sid, &sids, places(h.held)) {
+    if any_of(q.sid, h.held_requests()) {
         return Refusal::HELD;
     }
     if Headend::MOST_HELD <= h.held {
@@ -60,35 +49,21 @@ fn request_fault(h: Headend, sid: u32, size: u32, first: MiniSlot) -> u32
     0
 }
 
-fn put(numbers: [u32; 64], at: u32, x: u32) -> [u32; 64]
-    requires { at < 64 }
-    ensures { result ≡ set numbers at x }
-{
-    let mut out = numbers;
-    out[at as usize] = x;
-    out
-}
-
-fn joined(h: Headend, sid: u32, size: u32, first: MiniSlot) -> Headend
+fn joined(h: Headend, q: Request) -> Headend
     requires { h.held < 64 }
-    ensures { result ≡ joined h (record { sid = sid; size = size; first = first.0 }) }
+    ensures { result ≡ joined h q }
 {
-    let next = h.next;
-    let ack = h.ack;
-    let sids = h.sids;
-    let sizes = h.sizes;
-    let firsts = h.firsts;
-    let sids = put(sids, h.held, sid);
-    let sizes = put(sizes, h.held, size);
-    let firsts = put(firsts, h.held, first.0);
-    with_places(h, next, ack, h.held + 1, sids, sizes, firsts)
+    let mut requests = h.requests;
+    requests[h.held as usize] = q;
+    with_places(h, h.next, h.ack, h.held + 1, requests)
 }
 
 impl Headend {
     pub fn request(self, sid: u32, size: u32, first: MiniSlot) -> Taking
-        ensures { result ≡ request_of self (record { sid = sid; size = size; first = first.0 }) }
+        ensures { result ≡ request_of self (record { sid = sid; size = size; first = first }) }
     {
-        let number = request_fault(self, sid, size, first);
+        let q = Request { sid, size, first };
+        let number = request_fault(self, q);
         if number != 0 {
             return Taking {
                 headend: self,
@@ -96,7 +71,7 @@ impl Headend {
             };
         }
         Taking {
-            headend: joined(self, sid, size, first),
+            headend: joined(self, q),
             answer: Taken::Taken,
         }
     }

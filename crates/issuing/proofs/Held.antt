@@ -2,14 +2,13 @@
 use mathlib.Core.Path.{◌≡◌, refl, sym, ◌∙◌, ap}
 use mathlib.Core.Bool.{Bool, true, false, cond}
 use mathlib.Core.List.{List, [], ◌∷◌, ◌++◌}
-use Prim.Native.Nat.{ℕ, zero, suc, ◌+◌, ◌-◌, ◌≤◌}
+use Prim.Native.Nat.{ℕ, ◌+◌, ◌-◌, ◌≤◌}
 use native.Mathlib.Omega.{arith}
-use native.Mathlib.Nat.{add-zero, sub-zero}
 use lib.Dec.{leb}
-use lib.ListN.{length, length-append}
+use lib.ListN.{length, take, drop, length-append}
+use lib.Seq.{take_at, drop_at}
 use borrow.Author.Tests.{leb-true}
-use Rattle.message.specs.Lists.{listed}
-use Rattle.headend.specs.Requests.{Request}
+use Rattle.headend.specs.declared.record.Request.{Request}
 use Rattle.issuing.specs.Plan.{granted, pending, total}
 
 pub granted_pending : (room : ℕ) (qs : List Request) → granted room qs ++ pending room qs ≡ qs
@@ -33,28 +32,9 @@ total_granted room (q ∷ qs) = go (leb q.size room) refl (total_granted (room -
 pub length_granted : (room : ℕ) (qs : List Request) → length (granted room qs) + length (pending room qs) ≡ length qs
 length_granted room qs = sym (length-append (granted room qs) (pending room qs)) ∙ ap length (granted_pending room qs)
 
--- the same by number
-module _ (rq : ℕ → Request) where
-  pub granted_listed : (room i n : ℕ) → granted room (listed rq i n) ≡ listed rq i (length (granted room (listed rq i n)))
-  unfolding granted listed
-  granted_listed room i zero = refl
-  granted_listed room i (suc n) = go (leb (rq i).size room) (granted_listed (room - (rq i).size) (i + 1) n)
-    where
-      go : (b : Bool) → granted (room - (rq i).size) (listed rq (i + 1) n) ≡ listed rq (i + 1) (length (granted (room - (rq i).size) (listed rq (i + 1) n))) →
-          cond b (rq i ∷ granted (room - (rq i).size) (listed rq (i + 1) n)) [] ≡ listed rq i (length (cond b (rq i ∷ granted (room - (rq i).size) (listed rq (i + 1) n)) []))
-      go true e = ap (λ (l : List Request). rq i ∷ l) e
-      go false e = refl
+-- the same by their count
+pub granted_first : (room : ℕ) (qs : List Request) → granted room qs ≡ take (length (granted room qs)) qs
+granted_first room qs = sym (ap (λ (l : List Request). take (length (granted room qs)) l) (sym (granted_pending room qs)) ∙ take_at (granted room qs) (pending room qs) _ refl)
 
-  pub pending_listed : (room i n : ℕ) → pending room (listed rq i n) ≡ listed rq (i + length (granted room (listed rq i n))) (n - length (granted room (listed rq i n)))
-  unfolding granted pending listed
-  pending_listed room i zero = refl
-  pending_listed room i (suc n) = go (leb (rq i).size room) (pending_listed (room - (rq i).size) (i + 1) n)
-    where
-      go : (b : Bool) → pending (room - (rq i).size) (listed rq (i + 1) n) ≡ listed rq (i + 1 + length (granted (room - (rq i).size) (listed rq (i + 1) n))) (n - length (granted (room - (rq i).size) (listed rq (i + 1) n))) →
-          cond b (pending (room - (rq i).size) (listed rq (i + 1) n)) (rq i ∷ listed rq (i + 1) n) ≡ listed rq (i + length (cond b (rq i ∷ granted (room - (rq i).size) (listed rq (i + 1) n)) [])) (suc n - length (cond b (rq i ∷ granted (room - (rq i).size) (listed rq (i + 1) n)) []))
-      go true e =
-          let k = length (granted (room - (rq i).size) (listed rq (i + 1) n)) in
-          let one : i + suc k ≡ i + 1 + k = omega arith in
-          let two : suc n - suc k ≡ n - k = omega arith in
-          rw (one, two) e
-      go false e = rw (add-zero i, sub-zero (suc n)) refl
+pub pending_after : (room : ℕ) (qs : List Request) → pending room qs ≡ drop (length (granted room qs)) qs
+pending_after room qs = sym (ap (λ (l : List Request). drop (length (granted room qs)) l) (sym (granted_pending room qs)) ∙ drop_at (granted room qs) (pending room qs) _ refl)

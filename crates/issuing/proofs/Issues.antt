@@ -1,38 +1,38 @@
 -- The ways through issuing: one law each, about the definitions only.
 use mathlib.Core.Path.{◌≡◌, refl, sym, ◌∙◌, ap}
 use mathlib.Core.Bool.{Bool, true, false, ◌||◌}
-use mathlib.Core.List.{List, [], ◌∷◌, ◌++◌, map, append_assoc}
-use Prim.Native.Nat.{ℕ, zero, suc, ◌+◌, ◌-◌, ◌*◌, ◌≤◌, ◌<◌}
+use mathlib.Core.List.{List, ◌++◌}
+use Prim.Native.Nat.{ℕ, zero, suc, ◌+◌, ◌-◌, ◌*◌, ◌≤◌}
 use native.Mathlib.Omega.{arith}
-use native.Mathlib.Nat.{zero-add, sub-zero}
 use lib.Dec.{ltb, eqb}
-use lib.ListN.{length, take, drop, get_or, set, replicate, length-append}
-use lib.Seq.{set_at, take_at}
+use lib.ListN.{length, take, drop, replicate, length-append, take-append-drop}
+use lib.Seq.{take_at}
+use Rattle.std.proofs.lemmas.List.{drop-replicate}
 use borrow.Author.Tests.{eq-eqb, ne_eqb, ltb-false, eqb-false, le-leb}
 use Rattle.slots.specs.declared.time.MiniSlot.{MiniSlot}
 use Rattle.slots.specs.Time.{ahead, moved_on}
+use Rattle.rules.specs.declared.element.Element.{Element}
 use Rattle.rules.specs.declared.fields.Fields.{Fields}
 use Rattle.message.specs.declared.reading.Verdict.{Verdict}
 use Rattle.message.specs.declared.reading.Verdict.TheVariants as verdict
 use Rattle.message.specs.declared.reading.Reading.{Reading}
 use Rattle.rules.specs.declared.refusal.Refusal.{Refusal}
-use Rattle.message.specs.Lists.{listed}
 use Rattle.message.specs.Reading.{read_of}
 use Rattle.writer.specs.Writing.{message_of, laid_out}
-use Rattle.message.proofs.Lists.{listed_last, length_listed}
 use Rattle.writer.proofs.Stores.{length_message}
 use Rattle.message.proofs.Ways.{passed, or_none}
 use Rattle.headend.specs.declared.record.Headend.{Headend}
-use Rattle.headend.specs.Requests.{Request, request_at, held_of}
+use Rattle.headend.specs.declared.record.Request.{Request}
+use Rattle.headend.specs.Requests.{spare, held_of}
 use Rattle.headend.specs.Records.{with_places, record_fault}
 use Rattle.headend.proofs.Checks.{handed_on, record_valid}
-use Rattle.headend.proofs.Tables.{held_is, length_held}
+use Rattle.headend.proofs.Tables.{length_held}
 use Rattle.issuing.specs.declared.issuing.Issuing.{Issuing}
 use Rattle.issuing.specs.declared.issuing.Issued.TheVariants as issued
-use Rattle.issuing.specs.Plan.{granted, pending, total, elements_of}
+use Rattle.issuing.specs.Plan.{total, elements_of}
 use Rattle.issuing.specs.Issue.{granted_in, pending_in, plan_of, plan_message, bad_ack, bad_plan, refuses, call_fault, issue_fault, places_of, moved_to, issued_from, issue_of, issue_into}
 use Rattle.issuing.specs.Scan.{first_fault, first_held, after_first, message_by, accepted_into}
-use Rattle.issuing.proofs.Held.{granted_listed, pending_listed, total_granted, length_granted}
+use Rattle.issuing.proofs.Held.{granted_first, pending_after, total_granted, length_granted}
 use Rattle.issuing.proofs.Planned.{plan_size, plan_length}
 
 pub ack_compared : (old next new a b : ℕ) → a ≡ ahead 32 old next → b ≡ ahead 32 old new → ltb a b ≡ ltb (ahead 32 old next) (ahead 32 old new)
@@ -75,50 +75,28 @@ module _ (s : List ℕ) (v : Verdict) (is : v ≡ read_of s) where
   pub refuses_some : (why : Refusal) → v ≡ verdict.Refused why → true ≡ refuses (read_of s)
   refuses_some why e = rw (← is, e) refl
 
--- 64 places, and one number more in them
-pub places_more : (xs : List ℕ) (n x : ℕ) → length xs ≡ n → n < 64 → set (places_of xs) n x ≡ places_of (xs ++ (x ∷ []))
-places_more xs n x e l =
-    let spare : 64 - length xs ≡ suc (64 - (n + 1)) = omega arith in
-    let more : n + 1 ≡ length (xs ++ (x ∷ [])) = omega (arith, length-append xs (x ∷ [])) in
-    ap (λ (k : ℕ). set (xs ++ replicate k 0) n x) spare
-    ∙ set_at xs 0 (replicate (64 - (n + 1)) 0) x n e
-    ∙ sym (append_assoc xs (x ∷ []) (replicate (64 - (n + 1)) 0))
-    ∙ ap (λ (k : ℕ). (xs ++ (x ∷ [])) ++ replicate (64 - k) 0) more
+-- as many as are held
+pub count_held : (h : Headend) (held : List Request) → h.held ≤ 64 → held ≡ held_of h → length held ≡ h.held
+count_held h held few is = ap length is ∙ length_held h few
 
-pub moved_none : (el : ℕ → ℕ) (from i : ℕ) → i ≡ from → replicate 64 0 ≡ places_of (listed el from (i - from))
-unfolding listed
-moved_none el from i e = let none : i - from ≡ 0 = omega arith in rw none refl
+-- requests in the first of 64 spare places
+pub placed : (qs : List Request) (out : List Request) → length qs ≤ 64 → out ≡ qs ++ drop (length qs) (replicate 64 spare) → out ≡ places_of qs
+placed qs out few e = e ∙ ap (λ (l : List Request). qs ++ l) (drop-replicate (length qs) 64 spare)
 
-module _ (el : ℕ → ℕ) (from held : ℕ) (most : held ≤ 64) (i : ℕ) (out : List ℕ) (is : out ≡ places_of (listed el from (i - from))) where
-  pub moved_more : from ≤ i → i < held → set out (i - from) (el i) ≡ places_of (listed el from (i + 1 - from))
-  moved_more a b =
-      let k : i + 1 - from ≡ i - from + 1 = omega arith in
-      let at : from + (i - from) ≡ i = omega arith in
-      rw (is, places_more (listed el from (i - from)) (i - from) (el i) (length_listed el from (i - from)) (omega arith), k, listed_last el from (i - from), at) refl
-
-  pub moved_all : i ≤ held → held ≤ i → out ≡ places_of (listed el from (held - from))
-  moved_all a b = let same : held ≡ i = omega arith in rw same is
-
-map_listed : {A B : Type 0} (f : A → B) (el : ℕ → A) (i k : ℕ) → map f (listed el i k) ≡ listed (λ j. f (el j)) i k
-unfolding listed
-map_listed f el i zero = refl
-map_listed {B = B} f el i (suc k) = ap (λ (l : List B). f (el i) ∷ l) (map_listed f el (i + 1) k)
-
-pub moves : (h : Headend) (ack len g : ℕ) (next : MiniSlot) (sids sizes firsts : List ℕ) (r : Headend) → next.0 ≡ moved_on 32 h.next.0 len → sids ≡ places_of (listed (λ i. get_or h.sids i 0) g (h.held - g)) → sizes ≡ places_of (listed (λ i. get_or h.sizes i 0) g (h.held - g)) → firsts ≡ places_of (listed (λ i. get_or h.firsts i 0) g (h.held - g)) → r ≡ with_places h next (record { 0 = ack }) (h.held - g) sids sizes firsts → r ≡ moved_to h ack len (after_first h g)
+pub moves : (h : Headend) (ack len g : ℕ) (next : MiniSlot) (rest requests : List Request) (r : Headend) → next.0 ≡ moved_on 32 h.next.0 len → rest ≡ after_first h g → requests ≡ places_of rest → r ≡ with_places h next (record { 0 = ack }) (length rest) requests → r ≡ moved_to h ack len (after_first h g)
 unfolding moved_to
-moves h ack len g next sids sizes firsts r n a b d e =
+moves h ack len g next rest requests r n a b e =
     let next' : next ≡ record { 0 = moved_on 32 h.next.0 len } = λ i. record { 0 = n i } in
-    let len' = length_listed (request_at h) g (h.held - g) in
-    rw (map_listed (λ (q : Request). q.sid) (request_at h) g (h.held - g), map_listed (λ (q : Request). q.size) (request_at h) g (h.held - g), map_listed (λ (q : Request). q.first) (request_at h) g (h.held - g), len', ← a, ← b, ← d, ← next') e
+    rw (← a, ← b, ← next') e
 
 -- the message stands at the front of the bytes that it was laid out in
-pub made : (h : Headend) (f : Fields) (c g : ℕ) (old new : List ℕ) → g ≤ h.held → new ≡ laid_out f (elements_of h.short c (first_held h g) (after_first h g)) old → 24 + 4 * h.held ≤ length old → take (24 + 4 * h.held) new ≡ message_of f (elements_of h.short c (first_held h g) (after_first h g))
+pub made : (h : Headend) (f : Fields) (c g : ℕ) (es : List Element) (old new : List ℕ) → h.held ≤ 64 → g ≤ h.held → es ≡ elements_of h.short c (first_held h g) (after_first h g) → new ≡ laid_out f es old → 24 + 4 * h.held ≤ length old → take (24 + 4 * h.held) new ≡ message_of f (elements_of h.short c (first_held h g) (after_first h g))
 unfolding laid_out
-made h f c g old new few e room =
-    let es = elements_of h.short c (first_held h g) (after_first h g) in
-    let n : length es ≡ h.held + 2 = omega (arith, plan_size h.short c (first_held h g) (after_first h g), length_listed (request_at h) 0 g, length_listed (request_at h) g (h.held - g)) in
+made h f c g es old new most few is e room =
+    let all : length (first_held h g) + length (after_first h g) ≡ h.held = sym (length-append (first_held h g) (after_first h g)) ∙ ap length (take-append-drop g (held_of h)) ∙ length_held h most in
+    let n : length es ≡ h.held + 2 = ap length is ∙ omega (arith, plan_size h.short c (first_held h g) (after_first h g)) in
     let size : length (message_of f es) ≡ 24 + 4 * h.held = length_message f es old ∙ omega arith in
-    rw (e, le-leb (16 + 4 * length es) (length old) (omega arith)) (take_at (message_of f es) (drop (length (message_of f es)) old) (24 + 4 * h.held) size)
+    rw (← is, e, le-leb (16 + 4 * length es) (length old) (omega arith)) (take_at (message_of f es) (drop (length (message_of f es)) old) (24 + 4 * h.held) size)
 
 -- what a call without a fault is
 pub record Called (h : Headend) (ack c budget room : ℕ) : Type 0 where
@@ -163,30 +141,28 @@ called h ack c budget room e =
 
 -- the plan by its count of grants
 module _ (h : Headend) (c budget : ℕ) (few : h.held ≤ 64) (g t : ℕ) (counts : (g ≡ length (granted_in h c budget)) × (t ≡ total (granted_in h c budget))) where
-  pub granted_first : granted_in h c budget ≡ first_held h g
-  granted_first = rw (counts.0, held_is h few) (granted_listed (request_at h) (budget - c) 0 h.held)
+  pub first_granted : granted_in h c budget ≡ first_held h g
+  first_granted = rw counts.0 (granted_first (budget - c) (held_of h))
 
-  pub pending_after : pending_in h c budget ≡ after_first h g
-  pending_after =
-      let count : length (granted (budget - c) (listed (request_at h) 0 h.held)) ≡ g = sym (counts.0 ∙ ap (λ (l : List Request). length (granted (budget - c) l)) (held_is h few)) in
-      ap (pending (budget - c)) (held_is h few) ∙ pending_listed (request_at h) (budget - c) 0 h.held ∙ rw (count, zero-add g) refl
+  pub after_pending : pending_in h c budget ≡ after_first h g
+  after_pending = rw counts.0 (pending_after (budget - c) (held_of h))
 
   pub grants_few : g ≤ h.held
   grants_few = omega (arith, length_granted (budget - c) (held_of h), length_held h few, counts.0)
 
   pub grants_fit : c ≤ budget → c + total (first_held h g) ≤ budget
-  grants_fit w = rw (← granted_first) (omega (arith, total_granted (budget - c) (held_of h)))
+  grants_fit w = rw (← first_granted) (omega (arith, total_granted (budget - c) (held_of h)))
 
   pub total_fits : c ≤ budget → c + t ≤ budget
   total_fits w = omega (arith, total_granted (budget - c) (held_of h), counts.1)
 
   pub plan_by_lem : (ack : ℕ) → message_by h ack c g ≡ plan_message h ack c budget
   unfolding plan_of
-  plan_by_lem ack = rw (granted_first, pending_after) refl
+  plan_by_lem ack = rw (first_granted, after_pending) refl
 
   pub issued_by_lem : (ack : ℕ) → moved_to h ack (c + t) (after_first h g) ≡ issued_from h ack c budget
   unfolding issued_from plan_of
-  issued_by_lem ack = rw (plan_length h.short c (granted_in h c budget) (pending_in h c budget), ← counts.1, pending_after) refl
+  issued_by_lem ack = rw (plan_length h.short c (granted_in h c budget) (pending_in h c budget), ← counts.1, after_pending) refl
 
 -- 24, and what the lent bytes hold then
 module _ (own old : List ℕ) (b : Bool) (is : b ≡ refuses (read_of own)) where
@@ -197,8 +173,8 @@ module _ (own old : List ℕ) (b : Bool) (is : b ≡ refuses (read_of own)) wher
   check_accepted new e p = let it = sym is ∙ e in (sym it, rw it p)
 
 -- .. of the MAP at the front of the headend's own array
-pub checked_front : (h : Headend) (own : List ℕ) (ack c g : ℕ) (old new : List ℕ) (b : Bool) → take (24 + 4 * h.held) own ≡ message_by h ack c g → (b ≡ refuses (read_of (take (24 + 4 * h.held - 0) own))) × (new ≡ accepted_into (take (24 + 4 * h.held - 0) own) old) → (b ≡ refuses (read_of (message_by h ack c g))) × (new ≡ accepted_into (message_by h ack c g) old)
-checked_front h own ack c g old new b e r = rw (sub-zero (24 + 4 * h.held), e) at r
+pub checked_front : (h : Headend) (own : List ℕ) (ack c g : ℕ) (old new : List ℕ) (b : Bool) → take (24 + 4 * h.held) own ≡ message_by h ack c g → (b ≡ refuses (read_of (take (24 + 4 * h.held) own))) × (new ≡ accepted_into (take (24 + 4 * h.held) own) old) → (b ≡ refuses (read_of (message_by h ack c g))) × (new ≡ accepted_into (message_by h ack c g) old)
+checked_front h own ack c g old new b e r = rw e at r
 
 pub answers : (r r' : Headend) (size : ℕ) → r ≡ r' → ◌≡◌ {A = Issuing} (record { headend = r; answer = issued.Size size }) (record { headend = r'; answer = issued.Size size })
 answers r r' size e = λ i. record { headend = e i; answer = issued.Size size }

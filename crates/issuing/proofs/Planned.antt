@@ -11,7 +11,7 @@ use Rattle.rules.specs.declared.element.Element.{Element}
 use Rattle.message.specs.Lists.{keep, is_empty, gather}
 use Rattle.rules.specs.Rules.{granting}
 use Rattle.message.specs.Map.{Interval, first_offset, intervals, map_length, after_null, grants_to, pendings_to}
-use Rattle.headend.specs.Requests.{Request}
+use Rattle.headend.specs.declared.record.Request.{Request}
 use Rattle.issuing.specs.Plan.{total, use_of, grants, pendings, elements_of}
 
 -- a grant's use is 5 or 6, and so no other

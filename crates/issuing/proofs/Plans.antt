@@ -1,26 +1,21 @@
--- The plan by number: the ways through its functions, and its elements one after the other.
+-- The plan: its grants counted, and its elements stored one after the other.
 use mathlib.Core.Path.{◌≡◌, refl, sym, ◌∙◌, ap}
 use mathlib.Core.Bool.{cond}
 use mathlib.Core.List.{List, [], ◌∷◌, ◌++◌, append_assoc, append-nil}
-use Prim.Native.Nat.{ℕ, zero, suc, ◌+◌, ◌-◌, ◌≤◌, ◌<◌}
+use Prim.Native.Nat.{ℕ, suc, ◌+◌, ◌-◌, ◌≤◌, ◌<◌}
 use native.Mathlib.Omega.{arith}
-use native.Mathlib.Nat.{add-zero, zero-add, sub-zero}
+use native.Mathlib.Numerals.{add-one}
+use native.Mathlib.Nat.{zero-add, add-zero, add_assoc}
 use lib.Dec.{leb}
-use lib.ListN.{length, take, get_or, set, replicate, length-set}
-use lib.Seq.{get_or-set_same, get_or-set_other, get_or-take, length-take-le}
-use borrow.Author.Tests.{le-leb, lt-leb, eq-eqb, ne_eqb}
+use lib.ListN.{length, take, drop, get_or, set, length-append, take-append-drop}
+use lib.Seq.{drop-cons, drop-length, take_at, set_at, take-length, length-take-le}
+use borrow.Author.Tests.{le-leb, lt-leb}
+use Rattle.std.proofs.lemmas.List.{take_more}
 use Rattle.rules.specs.declared.element.Element.{Element}
-use Rattle.rules.specs.declared.fields.Fields.{Fields}
-use Rattle.message.specs.Lists.{listed}
-use Rattle.writer.specs.Writing.{given, elements_given, laid_out}
-use Rattle.message.proofs.Granting.{listed_more, listed_none}
-use Rattle.message.proofs.Lists.{listed_last}
-use Rattle.headend.specs.declared.record.Headend.{Headend}
-use Rattle.headend.specs.Requests.{Request, request_at, held_of}
-use Rattle.headend.proofs.Scans.{listed_agree}
-use Rattle.headend.proofs.Tables.{held_is}
-use Rattle.issuing.specs.Plan.{granted, total, grants, pendings, elements_of}
-use Rattle.issuing.specs.Scan.{first_held, after_first, sid_by, use_by, length_by, plan_from, sum_from, plan_by}
+use Rattle.headend.specs.declared.record.Request.{Request}
+use Rattle.headend.specs.Requests.{spare}
+use Rattle.issuing.specs.Plan.{granted, total, use_of, grants, pendings, elements_of}
+use Rattle.issuing.proofs.Planned.{null, length_grants, length_pendings}
 
 pub use_short : (size short : ℕ) → size ≤ short → ◌≡◌ {A = ℕ} 5 (cond (leb size short) 5 6)
 use_short size short h = rw (le-leb size short h) refl
@@ -28,205 +23,150 @@ use_short size short h = rw (le-leb size short h) refl
 pub use_long : (size short : ℕ) → short < size → ◌≡◌ {A = ℕ} 6 (cond (leb size short) 5 6)
 use_long size short h = rw (lt-leb size short h) refl
 
--- the ways through the elements by number
-module _ (xs : List ℕ) (g k : ℕ) where
-  module _ (within : k ≤ g) where
-    pub sid_grant : get_or xs (k - 1) 0 ≡ sid_by xs g k
-    unfolding sid_by
-    sid_grant = rw (le-leb k g within) refl
-
-    pub use_grant : (short u : ℕ) → u ≡ cond (leb (get_or xs (k - 1) 0) short) 5 6 → u ≡ use_by xs short g k
-    unfolding use_by
-    use_grant short u e = rw (le-leb k g within) e
-
-    pub length_grant : get_or xs (k - 1) 0 ≡ length_by xs g k
-    unfolding length_by
-    length_grant = rw (le-leb k g within) refl
-
-  module _ (past : g < k) where
-    pub sid_null : k ≡ g + 1 → 0 ≡ sid_by xs g k
-    unfolding sid_by
-    sid_null e = rw (lt-leb k g past, eq-eqb k (g + 1) e) refl
-
-    pub use_null : (short : ℕ) → k ≡ g + 1 → 7 ≡ use_by xs short g k
-    unfolding use_by
-    use_null short e = rw (lt-leb k g past, eq-eqb k (g + 1) e) refl
-
-    pub sid_pending : (k ≡ g + 1 → ⊥) → get_or xs (k - 2) 0 ≡ sid_by xs g k
-    unfolding sid_by
-    sid_pending e = rw (lt-leb k g past, ne_eqb k (g + 1) e) refl
-
-    pub use_pending : (short : ℕ) → (k ≡ g + 1 → ⊥) → 5 ≡ use_by xs short g k
-    unfolding use_by
-    use_pending short e = rw (lt-leb k g past, ne_eqb k (g + 1) e) refl
-
-    pub length_none : 0 ≡ length_by xs g k
-    unfolding length_by
-    length_none = rw (lt-leb k g past) refl
-
-pub ruleset plan_ways = (use_short, use_long, sid_grant, sid_null, sid_pending, use_grant, use_null, use_pending, length_grant, length_none)
+pub ruleset uses = (use_short, use_long)
 
 -- what is left of the count gives the count of the whole
-module _ (h : Headend) (room : ℕ) where
-  abbrev pub left_of : ℕ → ℕ → List Request
-  left_of i left = granted left (listed (request_at h) i (h.held - i))
-
-  pub record Counted (sizes : List ℕ) (i left : ℕ) : Type 0 where
-    pub own : sizes ≡ h.sizes
-    pub some : i ≤ h.held
-    pub most : h.held ≤ 64
+module _ (held : List Request) (room : ℕ) where
+  pub record Counted (i left : ℕ) : Type 0 where
     pub less : left ≤ room
-    pub count : i + length (left_of i left) ≡ length (granted room (held_of h))
-    pub sum : room - left + total (left_of i left) ≡ total (granted room (held_of h))
+    pub count : i + length (granted left (drop i held)) ≡ length (granted room held)
+    pub sum : room - left + total (granted left (drop i held)) ≡ total (granted room held)
 
-  pub count_begins : (sizes : List ℕ) → sizes ≡ h.sizes → h.held ≤ 64 → Counted sizes 0 room
-  count_begins sizes own few =
-      let same : left_of 0 room ≡ granted room (held_of h) = rw (held_is h few, sub-zero h.held) refl in
-      record { own = own; some = omega arith; most = few; less = omega arith; count = rw same (zero-add _); sum = rw same (omega arith) }
+  pub count_begins : Counted 0 room
+  count_begins = record { less = omega arith; count = zero-add _; sum = omega arith }
 
-  module _ (sizes : List ℕ) (i left : ℕ) (sofar : Counted sizes i left) where
-    there : get_or h.sizes i 0 ≡ get_or sizes i 0
-    there = ap (λ (l : List ℕ). get_or l i 0) (sym sofar.own)
-
-    pub count_next : i < h.held → get_or sizes i 0 ≤ left → Counted sizes (i + 1) (left - get_or sizes i 0)
+  module _ (i left : ℕ) (sofar : Counted i left) where
+    pub count_next : i < length held → (q : Request) → q ≡ get_or held i spare → q.size ≤ left → Counted (i + 1) (left - q.size)
     unfolding granted total
-    count_next more fits =
-        let size = get_or sizes i 0 in
-        let step : left_of i left ≡ request_at h i ∷ left_of (i + 1) (left - size) = rw (listed_more (request_at h) h.held i more, there, le-leb size left fits) refl in
+    count_next more q is fits =
+        let cons : drop i held ≡ q ∷ drop (i + 1) held = rw (add-one i, is) (drop-cons held i spare more) in
+        let step : granted left (drop i held) ≡ q ∷ granted (left - q.size) (drop (i + 1) held) = rw (cons, le-leb q.size left fits) refl in
         record {
-          own = sofar.own;
-          some = omega arith;
-          most = sofar.most;
           less = omega (arith, sofar.less);
           count = omega (arith, sofar.count, ap length step);
-          sum = omega (arith, sofar.sum, sofar.less, ap total step, there);
+          sum = omega (arith, sofar.sum, sofar.less, ap total step);
         }
 
-    ends : left_of i left ≡ [] → (i ≡ length (granted room (held_of h))) × (room - left ≡ total (granted room (held_of h)))
+    ends : granted left (drop i held) ≡ [] → (i ≡ length (granted room held)) × (room - left ≡ total (granted room held))
     unfolding total
     ends none = (omega (arith, sofar.count, ap length none), omega (arith, sofar.sum, ap total none))
 
-    pub count_all : h.held ≤ i → (i ≡ length (granted room (held_of h))) × (room - left ≡ total (granted room (held_of h)))
+    pub count_all : length held ≤ i → i ≤ length held → (length held ≡ length (granted room held)) × (room - left ≡ total (granted room held))
     unfolding granted
-    count_all all = ends (rw (listed_none (request_at h) h.held i all) refl)
+    count_all a b =
+        let all : i ≡ length held = omega arith in
+        let it = ends (rw (all, drop-length held) refl) in
+        (sym all ∙ it.0, it.1)
 
-    pub count_stops : i < h.held → left < get_or sizes i 0 → (i ≡ length (granted room (held_of h))) × (room - left ≡ total (granted room (held_of h)))
+    pub count_stops : i < length held → (q : Request) → q ≡ get_or held i spare → left < q.size → (i ≡ length (granted room held)) × (room - left ≡ total (granted room held))
     unfolding granted
-    count_stops more big = ends (rw (listed_more (request_at h) h.held i more, there, lt-leb (get_or sizes i 0) left big) refl)
+    count_stops more q is big = ends (rw (drop-cons held i spare more, ← is, lt-leb q.size left big) refl)
 
--- one element more, stored at its place
-pub given_more : (a b d : List ℕ) (x y z k : ℕ) → k < length a → k < length b → k < length d → listed (given (set a k x) (set b k y) (set d k z)) 0 (k + 1) ≡ listed (given a b d) 0 k ++ (record { sid = x; iuc = y; offset = z } ∷ [])
-given_more a b d x y z k ha hb hd =
-    let below : listed (given (set a k x) (set b k y) (set d k z)) 0 k ≡ listed (given a b d) 0 k = listed_agree (given (set a k x) (set b k y) (set d k z)) (given a b d) 0 k (λ j l. rw (get_or-set_other a k j x 0 (λ e. omega arith), get_or-set_other b k j y 0 (λ e. omega arith), get_or-set_other d k j z 0 (λ e. omega arith)) refl) in
-    listed_last (given (set a k x) (set b k y) (set d k z)) 0 k
-    ∙ rw (below, zero-add k, get_or-set_same a k x 0 ha, get_or-set_same b k y 0 hb, get_or-set_same d k z 0 hd) refl
+-- one element more after those stored
+store : {A : Type 0} (d : A) (done old : List A) (k : ℕ) (x : A) → length done ≡ k → k < length old → set (done ++ drop k old) k x ≡ (done ++ (x ∷ [])) ++ drop (k + 1) old
+store {A = A} d done old k x e h =
+    let one : suc k ≡ k + 1 = omega arith in
+    rw (drop-cons old k d h, one) (set_at done (get_or old k d) (drop (k + 1) old) x k e ∙ sym (append_assoc done (x ∷ []) (drop (k + 1) old)))
 
--- .. and the first n SIDs lent
-pub given_front : (a b d : List ℕ) (n : ℕ) → n ≤ length a → elements_given (take n a) b d ≡ listed (given a b d) 0 n
-given_front a b d n h =
-    rw (length-take-le n a h) (listed_agree (given (take n a) b d) (given a b d) 0 n (λ j l. rw (get_or-take n a j 0 (omega arith)) refl))
+spare_element : Element
+spare_element = record { sid = 0; iuc = 0; offset = 0 }
 
--- what the arrays hold so far, and the elements that are left, are the whole
-module _ (sids sizes : List ℕ) (short c g n : ℕ) where
-  pub record Filled (a b d : List ℕ) (offset k : ℕ) : Type 0 where
-    pub few : g ≤ 64
-    pub most : n ≤ 66
-    pub later : 1 ≤ k
-    pub some : k ≤ n
-    pub sids_room : length a ≡ 66
-    pub uses_room : length b ≡ 66
-    pub offsets_room : length d ≡ 66
-    pub sum : offset + sum_from sizes g (n - k) k ≤ 4096
-    pub whole : listed (given a b d) 0 k ++ plan_from sids sizes short g (n - k) k offset ≡ plan_by sids sizes short c g n
+total_append : (xs ys : List Request) → total (xs ++ ys) ≡ total xs + total ys
+unfolding total
+total_append [] ys = sym (zero-add (total ys))
+total_append (x ∷ xs) ys = rw (total_append xs ys) (sym (add_assoc x.size (total xs) (total ys)))
 
-  pub fill_begins : g ≤ 64 → 1 ≤ n → n ≤ 66 → c + sum_from sizes g (n - 1) 1 ≤ 4096 → Filled (replicate 66 0x3FFF) (replicate 66 1) (replicate 66 0) c 1
-  unfolding listed
-  fill_begins few some most e =
-      record { few = few; most = most; later = omega arith; some = some; sids_room = refl; uses_room = refl; offsets_room = refl; sum = e; whole = refl }
+grants_append : (short o : ℕ) (xs ys : List Request) → grants short o (xs ++ ys) ≡ grants short o xs ++ grants short (o + total xs) ys
+unfolding grants total
+grants_append short o [] ys = rw (add-zero o) refl
+grants_append short o (x ∷ xs) ys = rw (grants_append short (o + x.size) xs ys, add_assoc o x.size (total xs)) refl
 
-  module _ (a b d : List ℕ) (offset k : ℕ) (sofar : Filled a b d offset k) where
-    sum_step : k < n → sum_from sizes g (n - k) k ≡ length_by sizes g k + sum_from sizes g (n - (k + 1)) (k + 1)
-    unfolding sum_from
-    sum_step more = let one : n - k ≡ suc (n - (k + 1)) = omega arith in rw one refl
+pendings_append : (o : ℕ) (xs ys : List Request) → pendings o (xs ++ ys) ≡ pendings o xs ++ pendings o ys
+unfolding pendings
+pendings_append o [] ys = refl
+pendings_append o (x ∷ xs) ys = rw (pendings_append o xs ys) refl
 
-    pub fill_fits : k < n → (len : ℕ) → len ≡ length_by sizes g k → offset + len ≤ 4096
-    fill_fits more len e = omega (arith, sofar.sum, sum_step more)
+-- the first k of these requests are stored
+abbrev pub Pended : List Request → List Element → ℕ → ℕ → List Element → Type 0
+Pended qs old o k out = out ≡ pendings o (take k qs) ++ drop k old
 
-    pub fill_next : k < n → (sid iuc len : ℕ) → sid ≡ sid_by sids g k → iuc ≡ use_by sizes short g k → len ≡ length_by sizes g k → Filled (set a k sid) (set b k iuc) (set d k offset) (offset + len) (k + 1)
-    unfolding plan_from
-    fill_next more sid iuc len p q r =
-        let one : n - k ≡ suc (n - (k + 1)) = omega arith in
-        let e : Element = record { sid = sid; iuc = iuc; offset = offset } in
-        let step : plan_from sids sizes short g (n - k) k offset ≡ e ∷ plan_from sids sizes short g (n - (k + 1)) (k + 1) (offset + len) = rw (one, p, q, r) refl in
-        record {
-          few = sofar.few;
-          most = sofar.most;
-          later = omega arith;
-          some = omega arith;
-          sids_room = length-set a k sid ∙ sofar.sids_room;
-          uses_room = length-set b k iuc ∙ sofar.uses_room;
-          offsets_room = length-set d k offset ∙ sofar.offsets_room;
-          sum = omega (arith, sofar.sum, sum_step more);
-          whole = rw (given_more a b d sid iuc offset k (omega (arith, sofar.sids_room, sofar.most)) (omega (arith, sofar.uses_room, sofar.most)) (omega (arith, sofar.offsets_room, sofar.most))) (append_assoc (listed (given a b d) 0 k) (e ∷ []) (plan_from sids sizes short g (n - (k + 1)) (k + 1) (offset + len)) ∙ (rw step at sofar.whole));
-        }
+-- .. and what the grants come to from an offset on, and where they end
+pub record Granted (qs : List Request) (old : List Element) (short from k offset : ℕ) (out : List Element) : Type 0 where
+  pub end : offset ≡ from + total (take k qs)
+  pub put : out ≡ grants short from (take k qs) ++ drop k old
 
-    pub fill_ends : n ≤ k → (m : ℕ) → m ≡ n → elements_given (take m a) b d ≡ plan_by sids sizes short c g n
-    unfolding plan_from
-    fill_ends end m e =
-        let same : k ≡ n = omega (arith, sofar.some) in
-        let none : n - k ≡ 0 = omega arith in
-        rw e (given_front a b d n (omega (arith, sofar.sids_room, sofar.most)) ∙ sym (append-nil (listed (given a b d) 0 n)) ∙ (rw (none, same) at sofar.whole))
+module _ (qs : List Request) (old : List Element) (room : length qs ≤ length old) where
+  pub pended_none : (o : ℕ) → Pended qs old o 0 old
+  unfolding pendings
+  pended_none o = refl
 
--- .. and the whole is the plan
-module _ (h : Headend) (c g : ℕ) where
-  from_pendings : (l i k offset : ℕ) → k ≡ i + 2 → g ≤ i → plan_from h.sids h.sizes h.short g l k offset ≡ pendings offset (listed (request_at h) i l)
-  unfolding plan_from pendings listed
-  from_pendings zero i k offset e m = refl
-  from_pendings (suc l) i k offset e m =
-      let at : k - 2 ≡ i = omega arith in
-      let past : g < k = omega arith in
-      let other : k ≡ g + 1 → ⊥ = λ z. omega arith in
-      rw (← sid_pending h.sids g k past other, ← use_pending h.sizes g k past h.short other, ← length_none h.sizes g k past, add-zero offset, at, from_pendings l (i + 1) (k + 1) offset (omega arith) (omega arith)) refl
+  pub pended_all : (o k : ℕ) (out : List Element) → k ≤ length qs → length qs ≤ k → Pended qs old o k out → out ≡ pendings o qs ++ drop (length qs) old
+  pended_all o k out a b e = let all : k ≡ length qs = omega arith in e ∙ rw (all, take-length qs) refl
 
-  from_grants : (m p i k offset : ℕ) → k ≡ i + 1 → i + m ≡ g → plan_from h.sids h.sizes h.short g (m + suc p) k offset ≡ grants h.short offset (listed (request_at h) i m) ++ (record { sid = 0; iuc = 7; offset = offset + total (listed (request_at h) i m) } ∷ pendings (offset + total (listed (request_at h) i m)) (listed (request_at h) g p))
-  unfolding plan_from grants total listed
-  from_grants zero p i k offset e m =
-      let past : g < k = omega arith in
-      let next : k ≡ g + 1 = omega arith in
-      rw (zero-add (suc p), ← sid_null h.sids g k past next, ← use_null h.sizes g k past h.short next, ← length_none h.sizes g k past, add-zero offset, from_pendings p g (k + 1) offset (omega arith) (omega arith)) refl
-  from_grants (suc m) p i k offset e z =
-      let more : suc m + suc p ≡ suc (m + suc p) = omega arith in
-      let at : k - 1 ≡ i = omega arith in
-      let within : k ≤ g = omega arith in
-      let sum : offset + (get_or h.sizes i 0 + total (listed (request_at h) (i + 1) m)) ≡ offset + get_or h.sizes i 0 + total (listed (request_at h) (i + 1) m) = omega arith in
-      rw (more, ← sid_grant h.sids g k within, ← use_grant h.sizes g k within h.short _ refl, ← length_grant h.sizes g k within, at, from_grants m p (i + 1) (k + 1) (offset + get_or h.sizes i 0) (omega arith) (omega arith), sum) refl
+  pub granted_none : (short from : ℕ) → Granted qs old short from 0 from old
+  unfolding grants total
+  granted_none short from = record { end = omega arith; put = refl }
 
-  sum_after : (l k : ℕ) → g < k → sum_from h.sizes g l k ≡ 0
-  unfolding sum_from
-  sum_after zero k past = refl
-  sum_after (suc l) k past = omega (arith, length_none h.sizes g k past, sum_after l (k + 1) (omega arith))
+  pub granted_all : (short from k offset : ℕ) (out : List Element) → k ≤ length qs → length qs ≤ k → Granted qs old short from k offset out → (offset ≡ from + total qs) × (out ≡ grants short from qs ++ drop (length qs) old)
+  granted_all short from k offset out a b g =
+      let all : k ≡ length qs = omega arith in
+      (g.end ∙ rw (all, take-length qs) refl, g.put ∙ rw (all, take-length qs) refl)
 
-  sum_grants : (m q i k : ℕ) → k ≡ i + 1 → i + m ≡ g → sum_from h.sizes g (m + q) k ≡ total (listed (request_at h) i m)
-  unfolding sum_from total listed
-  sum_grants zero q i k e z = sum_after (0 + q) k (omega arith)
-  sum_grants (suc m) q i k e z =
-      let more : suc m + q ≡ suc (m + q) = omega arith in
-      let at : k - 1 ≡ i = omega arith in
-      rw (more, ← length_grant h.sizes g k (omega arith), at, sum_grants m q (i + 1) (k + 1) (omega arith) (omega arith)) refl
+  module _ (k : ℕ) (more : k < length qs) (q : Request) (is : q ≡ get_or qs k spare) where
+    next : take (k + 1) qs ≡ take k qs ++ (q ∷ [])
+    next = rw is (take_more qs k spare more)
 
-  module _ (n : ℕ) (few : g ≤ h.held) (is : n ≡ h.held + 2) where
-    rest : n - 1 ≡ g + suc (h.held - g)
-    rest = omega arith
+    taken : length (take k qs) ≡ k
+    taken = length-take-le k qs (omega arith)
 
-    plan_whole : plan_by h.sids h.sizes h.short c g n ≡ elements_of h.short c (first_held h g) (after_first h g)
-    unfolding elements_of
-    plan_whole = rw (rest, from_grants g (h.held - g) 0 1 c refl (zero-add g)) refl
+    pub pended_more : (o : ℕ) (out : List Element) → Pended qs old o k out → Pended qs old o (k + 1) (set out k (record { sid = q.sid; iuc = 5; offset = o }))
+    unfolding pendings
+    pended_more o out e =
+        rw (e, next, pendings_append o (take k qs) (q ∷ []))
+        (store spare_element (pendings o (take k qs)) old k (record { sid = q.sid; iuc = 5; offset = o }) (length_pendings o (take k qs) ∙ taken) (omega arith))
 
-    pub sum_fits : c + total (first_held h g) ≤ 4096 → c + sum_from h.sizes g (n - 1) 1 ≤ 4096
-    sum_fits e = rw (rest, sum_grants g (suc (h.held - g)) 0 1 refl (zero-add g)) e
+    sum : total (take (k + 1) qs) ≡ total (take k qs) + q.size
+    unfolding total
+    sum = rw (next, total_append (take k qs) (q ∷ []), add-zero q.size) refl
 
-    pub plan_laid : (f f' : Fields) (old new : List ℕ) → f ≡ f' → new ≡ laid_out f (plan_by h.sids h.sizes h.short c g n) old → new ≡ laid_out f' (elements_of h.short c (first_held h g) (after_first h g)) old
-    plan_laid f f' old new a e = rw (← a, ← plan_whole) e
+    -- not past the end of them all
+    pub granted_fits : (short from offset : ℕ) (out : List Element) → Granted qs old short from k offset out → from + total qs ≤ 4096 → offset + q.size ≤ 4096
+    granted_fits short from offset out g h =
+        let whole : total qs ≡ total (take (k + 1) qs) + total (drop (k + 1) qs) = ap total (sym (take-append-drop (k + 1) qs)) ∙ total_append (take (k + 1) qs) (drop (k + 1) qs) in
+        omega (arith, g.end, sum)
 
-pub lays : (f : Fields) (es es' : List Element) (old new : List ℕ) → es ≡ es' → new ≡ laid_out f es old → new ≡ laid_out f es' old
-lays f es es' old new a e = rw (← a) e
+    pub granted_more : (short from offset iuc : ℕ) (out : List Element) → Granted qs old short from k offset out → iuc ≡ use_of short q → Granted qs old short from (k + 1) (offset + q.size) (set out k (record { sid = q.sid; iuc = iuc; offset = offset }))
+    unfolding grants
+    granted_more short from offset iuc out g u = record {
+      end = omega (arith, g.end, sum);
+      put =
+          rw (g.put, next, grants_append short from (take k qs) (q ∷ []), u, ← g.end)
+          (store spare_element (grants short from (take k qs)) old k (record { sid = q.sid; iuc = use_of short q; offset = offset }) (length_grants short from (take k qs) ∙ taken) (omega arith));
+    }
+
+-- the first element, the grants, the Null and the pendings, stored one after the other, are the plan
+first : Element
+first = record { sid = 0x3FFF; iuc = 1; offset = 0 }
+
+module _ (held : List Request) (g short c : ℕ) (gs ps : List Request) (front : gs ≡ take g held) (back : ps ≡ drop g held) (few : length held ≤ 64) (within : g ≤ length held) where
+  count : length gs ≡ g
+  count = ap length front ∙ length-take-le g held within
+
+  both : length gs + length ps ≡ length held
+  both = rw (front, back) (sym (length-append (take g held) (drop g held)) ∙ ap length (take-append-drop g held))
+
+  pub plan_stored : (end : ℕ) (t u v one two : List Element) → length t ≡ 65 → (end ≡ c + total gs) × (one ≡ grants short c gs ++ drop (length gs) t) → two ≡ pendings end ps ++ u →
+      take (length held + 2) (take (g + 2) (set (record { sid = 0x3FFF; iuc = 1; offset = 0 } ∷ (one ++ [])) (g + 1) (null end)) ++ (two ++ v)) ≡ elements_of short c (take g held) (drop g held)
+  unfolding elements_of first
+  plan_stored end t u v one two room grants' pendings' =
+      let G : List Element = first ∷ grants short c gs in
+      let N : List Element = null end ∷ [] in
+      let P : List Element = pendings end ps in
+      let a : length G ≡ g + 1 = omega (arith, length_grants short c gs, count) in
+      let b : length (G ++ N) ≡ g + 2 = length-append G N ∙ omega arith in
+      let d : length ((G ++ N) ++ P) ≡ length held + 2 = length-append (G ++ N) P ∙ omega (arith, length_pendings end ps, both, count) in
+      let more : g + 1 + 1 ≡ g + 2 = omega arith in
+      let begun : first ∷ (one ++ []) ≡ G ++ drop (g + 1) (first ∷ t) = ap (λ (l : List Element). first ∷ l) (append-nil one ∙ grants'.1 ∙ ap (λ (n : ℕ). grants short c gs ++ drop n t) count) ∙ rw (add-one g) refl in
+      let closed : set (first ∷ (one ++ [])) (g + 1) (null end) ≡ (G ++ N) ++ drop (g + 2) (first ∷ t) = rw begun (store first G (first ∷ t) (g + 1) (null end) a (omega arith)) ∙ ap (λ (n : ℕ). (G ++ N) ++ drop n (first ∷ t)) more in
+      let whole : take (g + 2) (set (first ∷ (one ++ [])) (g + 1) (null end)) ++ (two ++ v) ≡ ((G ++ N) ++ P) ++ (u ++ v) = rw (closed, take_at (G ++ N) (drop (g + 2) (first ∷ t)) (g + 2) b, pendings', append_assoc P u v) (sym (append_assoc (G ++ N) P (u ++ v))) in
+      rw (whole, take_at ((G ++ N) ++ P) (u ++ v) (length held + 2) d, append_assoc G N P, grants'.0, ← front, ← back) refl

@@ -20,9 +20,12 @@ use Rattle.message.specs.Reading.{map_of, read_of}
 use Rattle.rules.proofs.Ways.{no_fault}
 use Rattle.message.proofs.Ways.{or_none}
 use Rattle.writer.proofs.Trips.{Fits, whole_narrow, map_back, fields_back, reads_back}
+use Rattle.std.specs.List.{list_any}
+use Rattle.std.proofs.lemmas.List.Folds.{list_any-append}
 use Rattle.headend.specs.declared.record.Headend.{Headend}
-use Rattle.headend.specs.Requests.{Request, held_of}
-use Rattle.headend.specs.Records.{any, bad_size, record_fault}
+use Rattle.headend.specs.declared.record.Request.{Request}
+use Rattle.headend.specs.Requests.{held_of}
+use Rattle.headend.specs.Records.{bad_size, record_fault}
 use Rattle.headend.proofs.Checks.{record_valid}
 use Rattle.headend.proofs.Tables.{length_held}
 use Rattle.issuing.specs.Plan.{total, grants, pendings, elements_of}
@@ -38,20 +41,11 @@ walk_on i p e es z = rw (← z) refl
 
 -- no SID and no size of these is at fault
 pub record Sane (qs : List Request) : Type 0 where
-  pub sids : any (λ q. not (unicast q.sid)) qs ≡ false
-  pub sizes : any (λ q. bad_size q.size) qs ≡ false
+  pub sids : list_any (λ q. not (unicast q.sid)) qs ≡ false
+  pub sizes : list_any (λ q. bad_size q.size) qs ≡ false
 
-any_append : {A : Type 0} (p : A → Bool) (xs ys : List A) → any p (xs ++ ys) ≡ false → (any p xs ≡ false) × (any p ys ≡ false)
-unfolding any
-any_append p [] ys e = (refl, e)
-any_append p (x ∷ xs) ys e =
-    let one = or_none (p x) (any p (xs ++ ys)) e in
-    let rest = any_append p xs ys one.1 in
-    (rw one.0 rest.0, rest.1)
-
-any_cons : {A : Type 0} (p : A → Bool) (x : A) (xs : List A) → any p (x ∷ xs) ≡ false → (p x ≡ false) × (any p xs ≡ false)
-unfolding any
-any_cons p x xs e = or_none (p x) (any p xs) e
+any_append : {A : Type 0} (p : A → Bool) (xs ys : List A) → list_any p (xs ++ ys) ≡ false → (list_any p xs ≡ false) × (list_any p ys ≡ false)
+any_append p xs ys e = or_none (list_any p xs) (list_any p ys) (sym (list_any-append p xs ys) ∙ e)
 
 both_of : (a b : Bool) → (a && b) ≡ true → (a ≡ true) × (b ≡ true)
 both_of true b e = (refl, e)
@@ -64,8 +58,8 @@ pub record SaneOne (q : Request) : Type 0 where
 
 pub sane_cons : (q : Request) (qs : List Request) → Sane (q ∷ qs) → SaneOne q × Sane qs
 sane_cons q qs s =
-    let a = any_cons (λ q. not (unicast q.sid)) q qs s.sids in
-    let b = any_cons (λ q. bad_size q.size) q qs s.sizes in
+    let a = or_none (not (unicast q.sid)) (list_any (λ q. not (unicast q.sid)) qs) s.sids in
+    let b = or_none (bad_size q.size) (list_any (λ q. bad_size q.size) qs) s.sizes in
     let size = both_of (leb 1 q.size) (leb q.size 255) (not-false (within 1 255 q.size) b.0) in
     (record { sid = not-false (unicast q.sid) a.0; some = leb-true 1 q.size size.0; most = leb-true q.size 255 size.1 }, record { sids = a.1; sizes = b.1 })
 

@@ -1,31 +1,26 @@
 -- The table of requests held, after an issue.
-use mathlib.Core.Path.{◌≡◌, refl, sym, ◌∙◌, ap}
-use mathlib.Core.List.{List, [], ◌∷◌, ◌++◌}
-use Prim.Native.Nat.{ℕ, zero, suc, ◌+◌, ◌-◌, ◌≤◌}
+use mathlib.Core.Path.{◌≡◌, refl, sym, ◌∙◌}
+use mathlib.Core.List.{List, ◌++◌}
+use Prim.Native.Nat.{ℕ, ◌-◌, ◌≤◌}
 use native.Mathlib.Omega.{arith}
 use native.Mathlib.Nat.{min-eq_left}
-use native.Mathlib.Numerals.{add-one}
-use lib.ListN.{length, get_or}
+use lib.ListN.{length, get_or, length-append}
+use lib.Seq.{take_at}
+use Rattle.headend.proofs.Scans.{take_listed}
 use Rattle.slots.specs.Time.{moved_on}
 use Rattle.message.specs.Lists.{listed}
 use Rattle.message.specs.Map.{map_length}
 use Rattle.headend.specs.declared.record.Headend.{Headend}
-use Rattle.headend.specs.Requests.{Request, held_of}
+use Rattle.headend.specs.declared.record.Request.{Request}
+use Rattle.headend.specs.Requests.{spare, held_of}
 use Rattle.headend.specs.Records.{with_places}
 use Rattle.headend.proofs.Tables.{length_held}
-use Rattle.issuing.specs.Issue.{sids_of, sizes_of, firsts_of, granted_in, pending_in, plan_of, moved_to, issued_from}
+use Rattle.issuing.specs.Issue.{granted_in, pending_in, plan_of, moved_to, issued_from}
 use Rattle.issuing.proofs.Held.{granted_pending, length_granted}
 
-listed_shift : {A : Type 0} (el : ℕ → A) (i k : ℕ) → listed el (i + 1) k ≡ listed (λ j. el (suc j)) i k
-unfolding listed
-listed_shift el i zero = refl
-listed_shift el i (suc k) = rw (add-one i, listed_shift el (suc i) k) refl
-
 -- requests in their places are those requests
-numbered : (qs : List Request) (a b d : List ℕ) → listed (λ i. record { sid = get_or (sids_of qs ++ a) i 0; size = get_or (sizes_of qs ++ b) i 0; first = get_or (firsts_of qs ++ d) i 0 }) 0 (length qs) ≡ qs
-unfolding listed
-numbered [] a b d = refl
-numbered (q ∷ qs) a b d = ap (λ (l : List Request). q ∷ l) (listed_shift (λ i. record { sid = get_or (sids_of (q ∷ qs) ++ a) i 0; size = get_or (sizes_of (q ∷ qs) ++ b) i 0; first = get_or (firsts_of (q ∷ qs) ++ d) i 0 }) 0 (length qs) ∙ numbered qs a b d)
+numbered : (qs rest : List Request) → listed (λ i. get_or (qs ++ rest) i spare) 0 (length qs) ≡ qs
+numbered qs rest = sym (take_listed (qs ++ rest) spare (length qs) (omega (arith, length-append qs rest))) ∙ take_at qs rest (length qs) refl
 
 module _ (h : Headend) (ack c budget : ℕ) where
   -- held before is what is granted and what is pending; held after is what is pending
@@ -37,7 +32,7 @@ module _ (h : Headend) (ack c budget : ℕ) where
 
   pub held_issued : h.held ≤ 64 → held_of (issued_from h ack c budget) ≡ pending_in h c budget
   unfolding held_of issued_from moved_to with_places
-  held_issued few = rw (min-eq_left (pending_few few)) (numbered (pending_in h c budget) _ _ _)
+  held_issued few = rw (min-eq_left (pending_few few)) (numbered (pending_in h c budget) _)
 
   -- the next start moves on by the map length
   pub next_issued : (issued_from h ack c budget).next.0 ≡ moved_on 32 h.next.0 (map_length (plan_of h ack c budget).elements)

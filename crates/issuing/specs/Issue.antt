@@ -1,5 +1,5 @@
 -- Document 01, "The headend" and "Refusal numbers": issuing.
-use Rattle.std.specs.Prelude.{ℕ, ◌+◌, ◌-◌, ◌*◌, Bool, true, false, cond, not, ◌||◌, List, ◌++◌, map, ltb, eqb, length, replicate}
+use Rattle.std.specs.Prelude.{ℕ, ◌+◌, ◌-◌, ◌*◌, Bool, true, false, cond, not, ◌||◌, List, ◌++◌, ltb, eqb, length, replicate}
 use Rattle.slots.specs.Time.{ahead, moved_on}
 use Rattle.rules.specs.declared.fields.Fields.{Fields}
 use Rattle.message.specs.declared.reading.Verdict.{Verdict}
@@ -9,7 +9,8 @@ use Rattle.message.specs.Map.{Map, map_length}
 use Rattle.message.specs.Reading.{read_of}
 use Rattle.writer.specs.Writing.{message_of, onto}
 use Rattle.headend.specs.declared.record.Headend.{Headend}
-use Rattle.headend.specs.Requests.{Request, held_of}
+use Rattle.headend.specs.declared.record.Request.{Request}
+use Rattle.headend.specs.Requests.{spare, held_of}
 use Rattle.headend.specs.Records.{with_places, record_fault}
 use Rattle.issuing.specs.declared.issuing.Issuing.{Issuing}
 use Rattle.issuing.specs.declared.issuing.Issued.TheVariants as issued
@@ -70,23 +71,14 @@ issue_fault h ack c budget room =
     cond (not (eqb (call_fault h ack c budget room) 0)) (call_fault h ack c budget room)
     (cond (refuses (read_of (plan_message h ack c budget))) (number_of Selfcheck) 0)
 
--- 64 places that hold these numbers, and 0 in each spare place
-abbrev pub places_of : List ℕ → List ℕ
-places_of xs = xs ++ replicate (64 - length xs) 0
-
-abbrev pub sids_of : List Request → List ℕ
-sids_of qs = map (λ q. q.sid) qs
-
-abbrev pub sizes_of : List Request → List ℕ
-sizes_of qs = map (λ q. q.size) qs
-
-abbrev pub firsts_of : List Request → List ℕ
-firsts_of qs = map (λ q. q.first) qs
+-- 64 places that hold these requests, the others spare
+abbrev pub places_of : List Request → List Request
+places_of qs = qs ++ replicate (64 - length qs) spare
 
 -- "Granted requests leave the table and their room is used again. The next start moves on by the map length." The Ack Time is "from then on the headend's"
 unfoldable pub moved_to : Headend → ℕ → ℕ → List Request → Headend
 moved_to h ack len rest =
-    with_places h (record { 0 = moved_on 32 h.next.0 len }) (record { 0 = ack }) (length rest) (places_of (sids_of rest)) (places_of (sizes_of rest)) (places_of (firsts_of rest))
+    with_places h (record { 0 = moved_on 32 h.next.0 len }) (record { 0 = ack }) (length rest) (places_of rest)
 
 unfoldable pub issued_from : Headend → ℕ → ℕ → ℕ → Headend
 issued_from h ack c budget = moved_to h ack (map_length (plan_of h ack c budget).elements) (pending_in h c budget)

@@ -1,7 +1,7 @@
 -- Document 01, "The headend": the plan of a MAP.
 use Rattle.std.specs.Prelude.{ℕ, ◌+◌, ◌-◌, cond, List, [], ◌∷◌, ◌++◌, leb}
 use Rattle.rules.specs.declared.element.Element.{Element}
-use Rattle.headend.specs.Requests.{Request}
+use Rattle.headend.specs.declared.record.Request.{Request}
 
 -- "grants of full size in held order, stopping at the first that would pass the budget": those granted, where room mini-slots are left
 unfoldable pub granted : ℕ → List Request → List Request

@@ -1,13 +1,12 @@
 // A MAP issued.
-ghost use Rattle.std.specs.Prelude.{◌≡◌, ◌+◌, ◌-◌, ◌*◌, ◌≤◌, length, get_or};
-ghost use Rattle.message.specs.Lists.{listed};
+ghost use Rattle.std.specs.Prelude.{◌≡◌, ◌+◌, ◌*◌, ◌≤◌, length};
 ghost use Rattle.message.specs.Reading.{read_of};
 ghost use Rattle.issuing.specs.Plan.{total};
 ghost use Rattle.issuing.specs.Issue.{bad_ack, bad_plan, refuses, call_fault, places_of, moved_to, issue_of, issue_into};
 ghost use Rattle.issuing.specs.Scan.{first_held, after_first, first_fault, message_by, accepted_into};
 
 use crate::plan::{grants_within, make};
-use headend::{Headend, record_fault, with_places};
+use headend::{Headend, Request, record_fault, with_places};
 use message::{Verdict, read};
 use rules::Refusal;
 use slots::MiniSlot;
@@ -80,18 +79,14 @@ fn refuses(bytes: &[u8]) -> bool
     }
 }
 
-// The numbers from a place on, moved down to the first; the spare places are 0.
-fn moved_down(numbers: [u32; 64], from: usize, held: usize) -> [u32; 64]
-    requires { (from ≤ held) × (held ≤ 64) }
-    ensures { result ≡ places_of (listed (λ i. get_or numbers i 0) from (held - from)) }
+// These requests, in the first places.
+fn placed(requests: &[Request]) -> [Request; 64]
+    requires { length requests.now ≤ 64 }
+    ensures { result ≡ places_of requests.now }
 {
-    let mut out = [0u32; 64];
-    let mut i = from;
-    while i < held {
-        out[i - from] = numbers[i];
-        i += 1;
-    }
-    out
+    let mut places = [Request::SPARE; 64];
+    places[..requests.len()].copy_from_slice(requests);
+    places
 }
 
 // The record once the first g requests are granted in a MAP of this length.
@@ -100,18 +95,13 @@ fn moved_to(h: Headend, ack: MiniSlot, length: u32, g: usize) -> Headend
     ensures { result ≡ moved_to h ack.0 length (after_first h g) }
 {
     let next = h.next;
-    let held = h.held as usize;
-    let sids = h.sids;
-    let sizes = h.sizes;
-    let firsts = h.firsts;
+    let (_, rest) = h.held_requests().split_at(g);
     with_places(
         h,
         next.moved_on(length),
         ack,
-        (held - g) as u32,
-        moved_down(sids, g, held),
-        moved_down(sizes, g, held),
-        moved_down(firsts, g, held),
+        rest.len() as u32,
+        placed(rest),
     )
 }
 
@@ -143,7 +133,7 @@ fn put_map(h: Headend, ack: MiniSlot, c: u32, g: usize, out: &mut [u8]) -> bool
 {
     let own = make(h, ack, c, g);
     let size = 24 + 4 * (h.held as usize);
-    selfcheck(&own[0..size], out)
+    selfcheck(&own[..size], out)
 }
 
 fn done(h: Headend, ack: MiniSlot, length: u32, g: usize) -> Issuing
@@ -163,7 +153,7 @@ pub fn issue(headend: Headend, ack: MiniSlot, c: u32, budget: u32, out: &mut [u8
     if number != 0 {
         return refused(headend, number);
     }
-    let grants = grants_within(headend, budget - c);
+    let grants = grants_within(headend.held_requests(), budget - c);
     if put_map(headend, ack, c, grants.count, out) {
         return refused(headend, Refusal::SELFCHECK);
     }

@@ -3,13 +3,11 @@ use mathlib.Core.Path.{◌≡◌, refl, sym, ◌∙◌, ap}
 use mathlib.Core.List.{List, [], ◌∷◌, ◌++◌, append_assoc, append-nil}
 use Prim.Native.Nat.{ℕ, zero, suc, ◌+◌, ◌*◌, ◌≤◌, ◌<◌}
 use native.Mathlib.Omega.{arith}
-use native.Mathlib.Nat.{zero-add}
-use lib.ListN.{length, take, drop, set, length-append, take-append-drop, length-drop}
-use lib.Seq.{sets-eq, take_at, drop_at, drop-drop, length-take-le}
-use Rattle.message.proofs.Lists.{length_listed, listed_last}
+use lib.ListN.{length, get_or, take, drop, length-append, take-append-drop, length-drop}
+use lib.Seq.{take_at, drop_at, drop-drop, length-take-le, take-length}
+use Rattle.std.proofs.lemmas.List.{take_more}
 use Rattle.message.proofs.Ways.{said, said_not}
 use Rattle.rules.specs.declared.element.Element.{Element}
-use Rattle.message.specs.Lists.{listed}
 use Rattle.writer.specs.Writing.{bytes_of, word_of, header_of, elements_of, message_of, laid_out, onto, room_for, written_by, written_of, write_into}
 use Rattle.rules.specs.declared.fields.Fields.{Fields}
 use borrow.Author.Tests.{le-leb, lt-leb, lt-ltb, le-ltb, eq-eqb, ne_eqb, ltb-false, eqb-false}
@@ -21,14 +19,8 @@ use Rattle.rules.specs.declared.rules.Walked.TheVariants.{Whole, Fault}
 use Rattle.writer.specs.declared.writing.Written.{Written}
 use Rattle.writer.specs.declared.writing.Written.TheVariants.{Size, Refused}
 use Rattle.rules.specs.Backoffs.{bad_backoffs}
-use Rattle.rules.specs.Rules.{walked, nothing_yet}
-
-pub four_stores : (o : List ℕ) (at a b c d : ℕ) → at + 4 ≤ length o → set (set (set (set o at a) (at + 1) b) (at + 2) c) (at + 3) d ≡ take at o ++ ((a ∷ b ∷ c ∷ d ∷ []) ++ drop (at + 4) o)
-four_stores o at a b c d h =
-    let one : at + 1 ≡ suc at = omega arith in
-    let two : at + 2 ≡ suc (suc at) = omega arith in
-    let three : at + 3 ≡ suc (suc (suc at)) = omega arith in
-    rw (one, two, three) (sets-eq (a ∷ b ∷ c ∷ d ∷ []) o at h ∙ append_assoc (take at o) (a ∷ b ∷ c ∷ d ∷ []) (drop (at + 4) o))
+use Rattle.rules.specs.declared.rules.Progress.{Progress}
+use Rattle.rules.specs.Rules.{walked, nothing_yet, fault_of, advanced, ended_at}
 
 pub elements_append : (es fs : List Element) → elements_of (es ++ fs) ≡ elements_of es ++ elements_of fs
 unfolding elements_of
@@ -41,52 +33,54 @@ length_elements [] = refl
 length_elements (e ∷ es) = let rest = length_elements es in omega arith
 
 -- the bytes once k elements are laid out after the first 16
-abbrev pub laid : (ℕ → Element) → List ℕ → ℕ → List ℕ
-laid el o k = take 16 o ++ (elements_of (listed el 0 k) ++ drop (16 + 4 * k) o)
+abbrev pub laid : List Element → List ℕ → ℕ → List ℕ
+laid es o k = take 16 o ++ (elements_of (take k es) ++ drop (16 + 4 * k) o)
 
-module _ (el : ℕ → Element) (o : List ℕ) (n : ℕ) (room : 16 + 4 * n ≤ length o) where
-  pub laid_none : o ≡ laid el o 0
-  unfolding elements_of listed
+module _ (es : List Element) (o : List ℕ) (room : 16 + 4 * length es ≤ length o) where
+  pub laid_none : o ≡ laid es o 0
+  unfolding elements_of
   laid_none = sym (take-append-drop 16 o)
 
-  module _ (k : ℕ) (few : k ≤ n) where
+  module _ (k : ℕ) (few : k ≤ length es) where
     done : List ℕ
-    done = take 16 o ++ elements_of (listed el 0 k)
+    done = take 16 o ++ elements_of (take k es)
 
     length_done : length done ≡ 16 + 4 * k
     unfolding done
-    length_done = length-append (take 16 o) (elements_of (listed el 0 k)) ∙ omega (arith, length-take-le 16 o (omega arith), length_elements (listed el 0 k), length_listed el 0 k)
+    length_done = length-append (take 16 o) (elements_of (take k es)) ∙ omega (arith, length-take-le 16 o (omega arith), length_elements (take k es), length-take-le k es few)
 
-    laid_done : laid el o k ≡ done ++ drop (16 + 4 * k) o
+    laid_done : laid es o k ≡ done ++ drop (16 + 4 * k) o
     unfolding done
-    laid_done = sym (append_assoc (take 16 o) (elements_of (listed el 0 k)) (drop (16 + 4 * k) o))
+    laid_done = sym (append_assoc (take 16 o) (elements_of (take k es)) (drop (16 + 4 * k) o))
 
-    pub laid_length : length (laid el o k) ≡ length o
+    pub laid_length : length (laid es o k) ≡ length o
     laid_length = ap length laid_done ∙ length-append done (drop (16 + 4 * k) o) ∙ omega (arith, length_done, length-drop (16 + 4 * k) o)
 
-    take_laid : take (16 + 4 * k) (laid el o k) ≡ done
+    take_laid : take (16 + 4 * k) (laid es o k) ≡ done
     take_laid = rw laid_done (take_at done (drop (16 + 4 * k) o) (16 + 4 * k) length_done)
 
-    drop_laid : drop (16 + 4 * k + 4) (laid el o k) ≡ drop (16 + 4 * (k + 1)) o
+    drop_laid : drop (16 + 4 * k + 4) (laid es o k) ≡ drop (16 + 4 * (k + 1)) o
     drop_laid =
         let more : 16 + 4 * (k + 1) ≡ 16 + 4 * k + 4 = omega arith in
-        sym (drop-drop 4 (16 + 4 * k) (laid el o k))
+        sym (drop-drop 4 (16 + 4 * k) (laid es o k))
         ∙ ap (λ (l : List ℕ). drop 4 (drop (16 + 4 * k) l)) laid_done
         ∙ ap (λ (l : List ℕ). drop 4 l) (drop_at done (drop (16 + 4 * k) o) (16 + 4 * k) length_done)
         ∙ drop-drop 4 (16 + 4 * k) o
         ∙ ap (λ (j : ℕ). drop j o) (sym more)
 
-    -- .. and one element more
-    pub laid_more : (e : Element) (w : ℕ) (now after : List ℕ) → e ≡ el k → w ≡ word_of e → now ≡ laid el o k → after ≡ take (16 + 4 * k) now ++ (bytes_of w ++ drop (16 + 4 * k + 4) now) → after ≡ laid el o (k + 1)
-    unfolding done elements_of
-    laid_more e w now after a b c d =
-        let last : elements_of (listed el 0 (k + 1)) ≡ elements_of (listed el 0 k) ++ bytes_of (word_of (el k)) = ap elements_of (listed_last el 0 k ∙ ap (λ (j : ℕ). listed el 0 k ++ (el j ∷ [])) (zero-add k)) ∙ elements_append (listed el 0 k) (el k ∷ []) ∙ ap (λ (l : List ℕ). elements_of (listed el 0 k) ++ l) (append-nil (bytes_of (word_of (el k)))) in
-        rw (d, c, b, a, take_laid, drop_laid, last)
-        (append_assoc (take 16 o) (elements_of (listed el 0 k)) (bytes_of (word_of (el k)) ++ drop (16 + 4 * (k + 1)) o)
-        ∙ ap (λ (l : List ℕ). take 16 o ++ l) (sym (append_assoc (elements_of (listed el 0 k)) (bytes_of (word_of (el k))) (drop (16 + 4 * (k + 1)) o))))
+  -- .. and one element more
+  pub laid_more : (k : ℕ) (d : Element) (now after : List ℕ) → k < length es → now ≡ laid es o k → after ≡ take (16 + 4 * k) now ++ (bytes_of (word_of (get_or es k d)) ++ drop (16 + 4 * k + 4) now) → after ≡ laid es o (k + 1)
+  unfolding done elements_of
+  laid_more k d now after few c e =
+      let e' : Element = get_or es k d in
+      let le : k ≤ length es = omega arith in
+      let last : elements_of (take (k + 1) es) ≡ elements_of (take k es) ++ bytes_of (word_of e') = ap elements_of (take_more es k d few) ∙ elements_append (take k es) (e' ∷ []) ∙ ap (λ (l : List ℕ). elements_of (take k es) ++ l) (append-nil (bytes_of (word_of e'))) in
+      rw (e, c, take_laid k le, drop_laid k le, last)
+      (append_assoc (take 16 o) (elements_of (take k es)) (bytes_of (word_of e') ++ drop (16 + 4 * (k + 1)) o)
+      ∙ ap (λ (l : List ℕ). take 16 o ++ l) (sym (append_assoc (elements_of (take k es)) (bytes_of (word_of e')) (drop (16 + 4 * (k + 1)) o))))
 
-pub laid_all : (el : ℕ → Element) (o now : List ℕ) (n k : ℕ) → k ≤ n → n ≤ k → now ≡ laid el o k → now ≡ laid el o n
-laid_all el o now n k h j e = let same : n ≡ k = omega arith in rw same e
+pub laid_all : (es : List Element) (o : List ℕ) → laid es o (length es) ≡ take 16 o ++ (elements_of es ++ drop (16 + 4 * length es) o)
+laid_all es o = rw take-length refl
 
 module _ (f : Fields) (es : List Element) (o : List ℕ) where
   pub length_header : (n : ℕ) → length (header_of f n) ≡ 16
@@ -97,21 +91,37 @@ module _ (f : Fields) (es : List Element) (o : List ℕ) where
   unfolding message_of
   length_message = length-append (header_of f (length es)) (elements_of es) ∙ omega (arith, length_header (length es), length_elements es)
 
-  pub laid_out_lem : (n : ℕ) (header one two : List ℕ) → n ≡ length es → 16 + 4 * n ≤ length o → header ≡ header_of f n → one ≡ header ++ drop 16 o → two ≡ take 16 one ++ (elements_of es ++ drop (16 + 4 * n) one) → two ≡ laid_out f es o
+  pub laid_out_lem : (one two : List ℕ) → 16 + 4 * length es ≤ length o → one ≡ header_of f (length es) ++ drop 16 o → two ≡ take 16 one ++ (elements_of es ++ drop (16 + 4 * length es) one) → two ≡ laid_out f es o
   unfolding laid_out message_of
-  laid_out_lem n header one two is room h p q =
-      let start : one ≡ header_of f n ++ drop 16 o = p ∙ rw h refl in
-      let first : take 16 one ≡ header_of f n = rw start (take_at (header_of f n) (drop 16 o) 16 (length_header n)) in
-      let rest : drop (16 + 4 * n) one ≡ drop (16 + 4 * n) o = sym (drop-drop (4 * n) 16 one) ∙ ap (λ (l : List ℕ). drop (4 * n) l) (rw start (drop_at (header_of f n) (drop 16 o) 16 (length_header n))) ∙ drop-drop (4 * n) 16 o in
-      let whole : length (header_of f (length es) ++ elements_of es) ≡ 16 + 4 * n = length_message' ∙ omega arith in
-      rw (q, first, rest, le-leb (16 + 4 * length es) (length o) (omega arith), whole, ← is) (sym (append_assoc (header_of f n) (elements_of es) (drop (16 + 4 * n) o)))
-    where
-      length_message' : length (header_of f (length es) ++ elements_of es) ≡ 16 + 4 * length es
-      length_message' = length-append (header_of f (length es)) (elements_of es) ∙ omega (arith, length_header (length es), length_elements es)
+  laid_out_lem one two room p q =
+      let n = length es in
+      let first : take 16 one ≡ header_of f n = rw p (take_at (header_of f n) (drop 16 o) 16 (length_header n)) in
+      let rest : drop (16 + 4 * n) one ≡ drop (16 + 4 * n) o = sym (drop-drop (4 * n) 16 one) ∙ ap (λ (l : List ℕ). drop (4 * n) l) (rw p (drop_at (header_of f n) (drop 16 o) 16 (length_header n))) ∙ drop-drop (4 * n) 16 o in
+      let whole : length (header_of f n ++ elements_of es) ≡ 16 + 4 * n = length_message in
+      rw (q, first, rest, le-leb (16 + 4 * length es) (length o) (omega arith), whole) (sym (append_assoc (header_of f n) (elements_of es) (drop (16 + 4 * n) o)))
 
   pub not_laid : length o < 16 + 4 * length es → o ≡ laid_out f es o
   unfolding laid_out
   not_laid h = rw (lt-leb (16 + 4 * length es) (length o) h) refl
+
+-- what is left of a walk gives the answer of the whole
+module _ (i : ℕ) (p : Progress) (left : List Element) (whole : Walked) (same : walked i p left ≡ whole) where
+  pub walk_ends : (r : Walked) → length left ≡ 0 → r ≡ ended_at i p → r ≡ whole
+  unfolding walked
+  walk_ends r none e = go left none same
+    where
+      go : (es : List Element) → length es ≡ 0 → walked i p es ≡ whole → r ≡ whole
+      go [] h w = e ∙ w
+      go (x ∷ es) h w = absurd (omega arith)
+
+  module _ (e : Element) (after : List Element) (here : left ≡ e ∷ after) (f : ℕ) (is : f ≡ fault_of p e) where
+    pub walk_stops : (f ≡ 0 → ⊥) → Fault (record { number = f; element = i }) ≡ whole
+    unfolding walked
+    walk_stops k = rw (here, ne_eqb (fault_of p e) 0 (λ z. k (is ∙ z)), ← is) at same
+
+    pub walk_goes_on : f ≡ 0 → (q : Progress) → q ≡ advanced p e i → walked (i + 1) q after ≡ whole
+    unfolding walked
+    walk_goes_on k q g = rw (here, eq-eqb (fault_of p e) 0 (sym is ∙ k), ← g) at same
 
 -- the ways through the writer's decision
 module _ (size room : ℕ) where
@@ -127,24 +137,24 @@ module _ (size room : ℕ) where
   pub by_fault : (w : Walked) (why : Refusal) → w ≡ Fault why → Refused why ≡ written_by w size room
   by_fault w why e = rw e refl
 
-module _ (f : Fields) (es : List Element) (room n : ℕ) (is : n ≡ length es) where
-  pub write_none : n ≡ 0 → Refused (record { number = 2; element = 0 }) ≡ written_of f es room
+module _ (f : Fields) (es : List Element) (room : ℕ) where
+  pub write_none : length es ≡ 0 → Refused (record { number = 2; element = 0 }) ≡ written_of f es room
   unfolding written_of
-  write_none h = rw (eq-eqb (length es) 0 (sym is ∙ h)) refl
+  write_none h = rw (eq-eqb (length es) 0 h) refl
 
-  module _ (some : n ≡ 0 → ⊥) where
-    pub write_many : 240 < n → Refused (record { number = 2; element = 0 }) ≡ written_of f es room
+  module _ (some : length es ≡ 0 → ⊥) where
+    pub write_many : 240 < length es → Refused (record { number = 2; element = 0 }) ≡ written_of f es room
     unfolding written_of
-    write_many h = rw (ne_eqb (length es) 0 (λ z. some (is ∙ z)), lt-ltb 240 (length es) (omega arith)) refl
+    write_many h = rw (ne_eqb (length es) 0 some, lt-ltb 240 (length es) h) refl
 
-    module _ (few : n ≤ 240) where
+    module _ (few : length es ≤ 240) where
       pub write_backoff : bad_backoffs f ≡ true → Refused (record { number = 4; element = 0 }) ≡ written_of f es room
       unfolding written_of
-      write_backoff h = rw (ne_eqb (length es) 0 (λ z. some (is ∙ z)), le-ltb 240 (length es) (omega arith), h) refl
+      write_backoff h = rw (ne_eqb (length es) 0 some, le-ltb 240 (length es) few, h) refl
 
-      pub write_walked : (w : Walked) (r : Written) → bad_backoffs f ≡ false → w ≡ walked 0 nothing_yet es → r ≡ written_by w (16 + 4 * n) room → r ≡ written_of f es room
+      pub write_walked : (w : Walked) (r : Written) → bad_backoffs f ≡ false → w ≡ walked 0 nothing_yet es → r ≡ written_by w (16 + 4 * length es) room → r ≡ written_of f es room
       unfolding written_of
-      write_walked w r h a b = rw (ne_eqb (length es) 0 (λ z. some (is ∙ z)), le-ltb 240 (length es) (omega arith), h, ← a, ← is) b
+      write_walked w r h a b = rw (ne_eqb (length es) 0 some, le-ltb 240 (length es) few, h, ← a) b
 
 -- what a message is that is written
 pub record Writes (f : Fields) (es : List Element) (room size : ℕ) : Type 0 where
@@ -202,4 +212,4 @@ module _ (f : Fields) (es : List Element) (old : List ℕ) (a : Written) (is : a
   pub write_refused : (why : Refusal) → a ≡ Refused why → (Refused why ≡ written_of f es (length old)) × (old ≡ write_into f es old)
   write_refused why e = let done : Refused why ≡ written_of f es (length old) = sym e ∙ is in (done, rw (← done) refl)
 
-pub ruleset decided = (room_short, room_enough, by_whole, by_fault, write_none, write_many, write_backoff, write_walked, length_listed, said, said_not)
+pub ruleset decided = (room_short, room_enough, by_whole, by_fault, write_none, write_many, write_backoff, write_walked, said, said_not)

@@ -39,7 +39,7 @@ use Rattle.writer.specs.declared.writing.Written.{Written}
 use Rattle.writer.specs.declared.writing.Written.TheVariants.{Size}
 use Rattle.message.specs.Lists.{listed}
 use Rattle.message.specs.Element.{word_at, element_of, element_in}
-use Rattle.writer.specs.Writing.{bytes_of, word_of, header_of, elements_of, message_of, elements_given, written_of, write_into}
+use Rattle.writer.specs.Writing.{bytes_of, word_of, header_of, elements_of, message_of, written_of, write_into}
 
 -- an element whose values fit their bits
 pub record Narrow (e : Element) : Type 0 where
@@ -312,32 +312,32 @@ module _ (f : Fields) (es : List Element) (old new : List ℕ) (size : ℕ) (r :
       (rw same (reads_back f fits es done.few done.null done.end done.backoffs done.some done.walk), rw same (λ i. record { fields = fields_back f fits es done.few i; elements = map_back f fits es done.few narrow i }))
 
 -- the two functions, by their contracts
-module _ (κs : Lifetimes.Lfts 4) (a : World.ArgsD write'.signature κs) (r : World.ResD write'.signature κs) (s : Clauses.AtExit (Kinds'.ended_of 4 write_kinds.ps write_kinds.r) κs) (wrote : write.Post κs a r s)
+module _ (κs : Lifetimes.Lfts 2) (a : World.ArgsD write'.signature κs) (r : World.ResD write'.signature κs) (s : Clauses.AtExit (Kinds'.ended_of 2 write_kinds.ps write_kinds.r) κs) (wrote : write.Post κs a r s)
     (λs : Lifetimes.Lfts 1) (b : World.ArgsD read'.signature λs) (v : World.ResD read'.signature λs) (t : Clauses.AtExit (Kinds'.ended_of 1 read_kinds.ps read_kinds.r) λs) (found : read.Post λs b v t) where
   abbrev pub es : List Element
-  es = elements_given a.1.0.now a.1.1.0.now a.1.1.1.0.now
+  es = a.1.0.now
 
   -- what `read` accepted, `write` doesn't refuse where there is room for it
-  pub write_takes_read : (reading : Reading) → v ≡ Accepted reading → a.0 ≡ fields_of b.0.now → es ≡ (map_of b.0.now).elements → length b.0.now ≤ length a.1.1.1.1.0.now → r ≡ Size (length b.0.now)
-  write_takes_read reading accepts fields elements room = wrote.0 ∙ rw (fields, elements) (takes_read b.0.now reading (sym found ∙ accepts) (length a.1.1.1.1.0.now) room)
+  pub write_takes_read : (reading : Reading) → v ≡ Accepted reading → a.0 ≡ fields_of b.0.now → es ≡ (map_of b.0.now).elements → length b.0.now ≤ length a.1.1.0.now → r ≡ Size (length b.0.now)
+  write_takes_read reading accepts fields elements room = wrote.0 ∙ rw (fields, elements) (takes_read b.0.now reading (sym found ∙ accepts) (length a.1.1.0.now) room)
 
   -- what `write` wrote, `read` reads with the same fields and elements
   module _ (size : ℕ) (is : r ≡ Size size) where
-    pub read_after_write : Fits a.0 → b.0.now ≡ take size s.1.1.1.1.0.now → (k : ℕ) × (l : ℕ) × (v ≡ Accepted (record { fields = a.0; n = length es; null = k; length = l })) × (map_of b.0.now ≡ record { fields = a.0; elements = es })
+    pub read_after_write : Fits a.0 → b.0.now ≡ take size s.1.1.0.now → (k : ℕ) × (l : ℕ) × (v ≡ Accepted (record { fields = a.0; n = length es; null = k; length = l })) × (map_of b.0.now ≡ record { fields = a.0; elements = es })
     read_after_write fits same =
-        let old = a.1.1.1.1.0.now in
-        let new = s.1.1.1.1.0.now in
+        let old = a.1.1.0.now in
+        let new = s.1.1.0.now in
         let d = done a.0 es old new size r wrote.0 wrote.1 is in
         let both = trip a.0 es old new size r wrote.0 wrote.1 is fits b.0.now same in
         (d.null, d.end, found ∙ both.0, both.1)
 
     -- .. and what `read` read, `write` writes again as the same bytes exactly when reserved was 0
     module _ (bytes : Bytes b.0.now) (reading : Reading) (accepts : v ≡ Accepted reading) (fields : a.0 ≡ fields_of b.0.now) (elements : es ≡ (map_of b.0.now).elements) where
-      again : (take size s.1.1.1.1.0.now ≡ written b.0.now bytes (count_of b.0.now) refl (accepted b.0.now reading (sym found ∙ accepts)).sound.fits)
-      again = wrote_message a.0 es a.1.1.1.1.0.now s.1.1.1.1.0.now size r wrote.0 wrote.1 is ∙ rw (fields, elements) refl
+      again : (take size s.1.1.0.now ≡ written b.0.now bytes (count_of b.0.now) refl (accepted b.0.now reading (sym found ∙ accepts)).sound.fits)
+      again = wrote_message a.0 es a.1.1.0.now s.1.1.0.now size r wrote.0 wrote.1 is ∙ rw (fields, elements) refl
 
-      pub write_after_read : reserved_of b.0.now ≡ 0 → take size s.1.1.1.1.0.now ≡ b.0.now
+      pub write_after_read : reserved_of b.0.now ≡ 0 → take size s.1.1.0.now ≡ b.0.now
       write_after_read zero' = again ∙ same_bytes b.0.now bytes (count_of b.0.now) refl (accepted b.0.now reading (sym found ∙ accepts)).sound.fits zero'
 
-      pub reserved_zero : take size s.1.1.1.1.0.now ≡ b.0.now → reserved_of b.0.now ≡ 0
+      pub reserved_zero : take size s.1.1.0.now ≡ b.0.now → reserved_of b.0.now ≡ 0
       reserved_zero e = only_then b.0.now bytes (count_of b.0.now) refl (accepted b.0.now reading (sym found ∙ accepts)).sound.fits (sym again ∙ e)

@@ -12,8 +12,8 @@ use Rattle.writer.proofs.writing.write.Reads as write
 use Rattle.writer.proofs.writing.write.Kinds as write_kinds
 
 -- lent bytes: what they hold at exit is one
-pub lay_out_unique : (κs : Lifetimes.Lfts 4) (a : World.ArgsD lay-out'.signature κs) (r r' : World.ResD lay-out'.signature κs) (s s' : Clauses.AtExit (Kinds'.ended_of 4 lay_out_kinds.ps lay_out_kinds.r) κs) → lay-out.Post κs a r s → lay-out.Post κs a r' s' → s.1.1.1.1.0.now ≡ s'.1.1.1.1.0.now
+pub lay_out_unique : (κs : Lifetimes.Lfts 2) (a : World.ArgsD lay-out'.signature κs) (r r' : World.ResD lay-out'.signature κs) (s s' : Clauses.AtExit (Kinds'.ended_of 2 lay_out_kinds.ps lay_out_kinds.r) κs) → lay-out.Post κs a r s → lay-out.Post κs a r' s' → s.1.1.0.now ≡ s'.1.1.0.now
 lay_out_unique κs a r r' s s' p q = p ∙ sym q
 
-pub write_unique : (κs : Lifetimes.Lfts 4) (a : World.ArgsD write'.signature κs) (r r' : World.ResD write'.signature κs) (s s' : Clauses.AtExit (Kinds'.ended_of 4 write_kinds.ps write_kinds.r) κs) → write.Post κs a r s → write.Post κs a r' s' → (r ≡ r') × (s.1.1.1.1.0.now ≡ s'.1.1.1.1.0.now)
+pub write_unique : (κs : Lifetimes.Lfts 2) (a : World.ArgsD write'.signature κs) (r r' : World.ResD write'.signature κs) (s s' : Clauses.AtExit (Kinds'.ended_of 2 write_kinds.ps write_kinds.r) κs) → write.Post κs a r s → write.Post κs a r' s' → (r ≡ r') × (s.1.1.0.now ≡ s'.1.1.0.now)
 write_unique κs a r r' s s' p q = (p.0 ∙ sym q.0, p.1 ∙ sym q.1)

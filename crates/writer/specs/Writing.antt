@@ -1,5 +1,5 @@
 -- Document 01, "The message" and "Refusal numbers": writing.
-use Rattle.std.specs.Prelude.{ℕ, ◌+◌, ◌*◌, ◌/◌, ◌%◌, ◌^◌, cond, ◌||◌, List, [], ◌∷◌, ◌++◌, leb, ltb, eqb, length, drop, get_or}
+use Rattle.std.specs.Prelude.{ℕ, ◌+◌, ◌*◌, ◌/◌, ◌%◌, ◌^◌, cond, ◌||◌, List, [], ◌∷◌, ◌++◌, leb, ltb, eqb, length, drop}
 use Rattle.rules.specs.declared.element.Element.{Element}
 use Rattle.rules.specs.declared.fields.Fields.{Fields}
 use Rattle.rules.specs.declared.rules.Walked.{Walked}
@@ -9,7 +9,6 @@ use Rattle.writer.specs.declared.writing.Written.TheVariants.{Size, Refused}
 use Rattle.rules.specs.Refusals.{Count, Backoff, Room, number_of, refusal}
 use Rattle.rules.specs.Backoffs.{bad_backoffs}
 use Rattle.rules.specs.Rules.{walked, nothing_yet}
-use Rattle.message.specs.Lists.{listed}
 
 -- "Most significant byte first"
 unfoldable pub bytes_of : ℕ → List ℕ
@@ -38,13 +37,6 @@ message_of f es = header_of f (length es) ++ elements_of es
 -- "The whole is 16 + 4n bytes"
 abbrev pub size_of : List Element → ℕ
 size_of es = 16 + 4 * length es
-
--- the elements, as SIDs, uses and offsets in lists of their own: as many as there are SIDs; a use or an offset that is missing is 0
-abbrev pub given : List ℕ → List ℕ → List ℕ → ℕ → Element
-given sids uses offsets i = record { sid = get_or sids i 0; iuc = get_or uses i 0; offset = get_or offsets i 0 }
-
-abbrev pub elements_given : List ℕ → List ℕ → List ℕ → List Element
-elements_given sids uses offsets = listed (given sids uses offsets) 0 (length sids)
 
 -- 11 last: "lent bytes too few"
 abbrev pub room_for : ℕ → ℕ → Written

@@ -1,5 +1,6 @@
-use Rattle.headend.proofs.Checks.{joins}
+use Rattle.headend.specs.Records.{joined}
 use Rattle.headend.proofs.request.joined.Goals as goal
 
 pub returns : goal.returns
-returns c = search joins
+unfolding joined
+returns c = c.with_places.ensures

@@ -16,8 +16,8 @@ returns-then-earlier c = search request_ways
 pub returns-then-not_earlier : goal.returns-then-not_earlier
 returns-then-not_earlier c = search request_ways
 
-pub returns-then-any_is : goal.returns-then-any_is
-returns-then-any_is c = search request_ways
+pub returns-then-any_of : goal.returns-then-any_of
+returns-then-any_of c = search request_ways
 
 pub returns-then-h-ge-MOST_HELD : goal.returns-then-h-ge-MOST_HELD
 returns-then-h-ge-MOST_HELD c = search request_ways

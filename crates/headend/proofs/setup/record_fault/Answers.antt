@@ -7,14 +7,14 @@ returns-then-bad c = search ways
 pub returns-then-bad-2 : goal.returns-then-bad-2
 returns-then-bad-2 c = search ways
 
-pub returns-then-any_outside : goal.returns-then-any_outside
-returns-then-any_outside c = search ways
+pub returns-then-any_bad_sid : goal.returns-then-any_bad_sid
+returns-then-any_bad_sid c = search ways
 
 pub returns-then-h-gt-MOST_HELD : goal.returns-then-h-gt-MOST_HELD
 returns-then-h-gt-MOST_HELD c = search ways
 
-pub returns-then-any_outside-2 : goal.returns-then-any_outside-2
-returns-then-any_outside-2 c = search ways
+pub returns-then-any_bad_size : goal.returns-then-any_bad_size
+returns-then-any_bad_size c = search ways
 
 pub returns : goal.returns
 returns c = search ways

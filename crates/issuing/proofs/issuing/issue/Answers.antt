@@ -10,20 +10,17 @@ returns-then-number-ne0 c = issue_refused _ _ _ _ _ _ c.call_fault-number.ensure
 pub overflow_sub-budget : goal.overflow_sub-budget
 overflow_sub-budget c = let k = called _ _ _ _ _ (sym c.call_fault-number.ensures ∙ c.if-number-ne0.false) in search rules
 
-pub grants_within-grants-requires : goal.grants_within-grants-requires
-grants_within-grants-requires c = (called _ _ _ _ _ (sym c.call_fault-number.ensures ∙ c.if-number-ne0.false)).few
-
 pub put_map-requires : goal.put_map-requires
-put_map-requires c = let k = called _ _ _ _ _ (sym c.call_fault-number.ensures ∙ c.if-number-ne0.false) in let w = c.grants_within-grants.ensures in (k.few, (grants_few _ _ _ k.few _ _ w, (omega (arith, grants_fit _ _ _ k.few _ _ w k.within, k.most), k.fits)))
+put_map-requires c = let k = called _ _ _ _ _ (sym c.call_fault-number.ensures ∙ c.if-number-ne0.false) in let w = (rw c.held_requests.ensures at c.grants_within-grants.ensures) in (k.few, (grants_few _ _ _ k.few _ _ w, (omega (arith, grants_fit _ _ _ k.few _ _ w k.within, k.most), k.fits)))
 
 pub returns-then-put_map : goal.returns-then-put_map
-returns-then-put_map c = issue_selfcheck _ _ _ _ _ _ c.call_fault-number.ensures c.if-number-ne0.false _ _ c.grants_within-grants.ensures _ _ c.put_map.ensures _ c.if-put_map.true c.refused-then-put_map.ensures
+returns-then-put_map c = issue_selfcheck _ _ _ _ _ _ c.call_fault-number.ensures c.if-number-ne0.false _ _ (rw c.held_requests.ensures at c.grants_within-grants.ensures) _ _ c.put_map.ensures _ c.if-put_map.true c.refused-then-put_map.ensures
 
 pub overflow_add-c : goal.overflow_add-c
-overflow_add-c c = let k = called _ _ _ _ _ (sym c.call_fault-number.ensures ∙ c.if-number-ne0.false) in let f = total_fits _ _ _ k.few _ _ c.grants_within-grants.ensures k.within in search rules
+overflow_add-c c = let k = called _ _ _ _ _ (sym c.call_fault-number.ensures ∙ c.if-number-ne0.false) in let f = total_fits _ _ _ k.few _ _ (rw c.held_requests.ensures at c.grants_within-grants.ensures) k.within in search rules
 
 pub done-requires : goal.done-requires
-done-requires c = let k = called _ _ _ _ _ (sym c.call_fault-number.ensures ∙ c.if-number-ne0.false) in (grants_few _ _ _ k.few _ _ c.grants_within-grants.ensures, k.few)
+done-requires c = let k = called _ _ _ _ _ (sym c.call_fault-number.ensures ∙ c.if-number-ne0.false) in (grants_few _ _ _ k.few _ _ (rw c.held_requests.ensures at c.grants_within-grants.ensures), k.few)
 
 pub returns : goal.returns
-returns c = issue_done _ _ _ _ _ _ c.call_fault-number.ensures c.if-number-ne0.false _ _ c.grants_within-grants.ensures _ _ c.put_map.ensures _ c.if-put_map.false c.done.ensures
+returns c = issue_done _ _ _ _ _ _ c.call_fault-number.ensures c.if-number-ne0.false _ _ (rw c.held_requests.ensures at c.grants_within-grants.ensures) _ _ c.put_map.ensures _ c.if-put_map.false c.done.ensures
