@@ -2,14 +2,13 @@
 // enough to know that an input is too long.
 #![tactic(auto)]
 
-use report::Reported;
 use stream::Input;
 
 // ROOM is enough for every input; were it not, that would be said.
 fn told(rt: &HostRuntime, input: &[u8]) {
-    let mut out = [0u8; Reported::ROOM];
+    let mut out = [0u8; report::ROOM];
     match report::report(input, &mut out) {
-        Reported::Length(length) => {
+        Ok(length) => {
             stream::tell(
                 &mut rt.stdout(),
                 &mut rt.stderr(),
@@ -17,7 +16,7 @@ fn told(rt: &HostRuntime, input: &[u8]) {
                 &out[..length],
             );
         }
-        Reported::Refused(_) => stream::complain(
+        Err(_) => stream::complain(
             &mut rt.stderr(),
             b"mapspan",
             b"no room for the report",

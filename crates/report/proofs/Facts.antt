@@ -6,13 +6,17 @@ use Prim.Native.Nat.{ℕ, zero, suc, ◌≤◌}
 use native.Mathlib.Omega.{arith}
 use lib.Dec.{eqb}
 use lib.ListN.{length, drop, length-drop}
+use borrow.Author.Tests.{eq-eqb}
 use Rattle.slots.specs.Span.{span_of}
 use Rattle.slots.proofs.Spanning.{Same, span_any_order}
-use Rattle.report.specs.declared.bodies.Body.{Body}
-use Rattle.report.specs.declared.bodies.Body.TheVariants.{Map, Bad}
-use Rattle.report.specs.Bodies.{size_of, next_of, and_more, bodies_from, bodies_of, maps_in}
+use Rattle.std.specs.Prelude.{Ok, Err}
+use Rattle.report.specs.Bodies.{Body, size_of, next_of, and_more, bodies_from, bodies_of, maps_in}
 use Rattle.report.specs.Text.{span_line}
-use Rattle.report.proofs.Running.{bodies_none}
+
+pub bodies_none : (k : ℕ) (s : List ℕ) → length s ≡ 0 → bodies_from k s ≡ []
+unfolding bodies_from
+bodies_none zero s h = refl
+bodies_none (suc k) s h = rw (eq-eqb (length s) 0 h) refl
 
 bodies_same : (k j : ℕ) (s : List ℕ) → length s ≤ k → length s ≤ j → bodies_from k s ≡ bodies_from j s
 unfolding bodies_from
@@ -23,11 +27,11 @@ bodies_same (suc k) (suc j) s h l = go (eqb (length s) 0) refl (next_of s) (λ t
     go : (t : Bool) → eqb (length s) 0 ≡ t → (b : Body) → ((l : List ℕ) → length l ≤ k → length l ≤ j → bodies_from k l ≡ bodies_from j l) →
         cond t [] (and_more b (λ n. bodies_from k (drop n s))) ≡ cond t [] (and_more b (λ n. bodies_from j (drop n s)))
     go true e b more = refl
-    go false e (Bad why) more = refl
-    go false e (Map row) more =
+    go false e (Err why) more = refl
+    go false e (Ok row) more =
         let left = drop (size_of row.n) s in
         let fewer = length-drop (size_of row.n) s in
-        ap (λ (bs : List Body). Map row ∷ bs) (more left (omega arith) (omega arith))
+        ap (λ (bs : List Body). Ok row ∷ bs) (more left (omega arith) (omega arith))
 
 -- as many bodies as there are bytes are all of them
 pub bodies_all : (k : ℕ) (s : List ℕ) → length s ≤ k → bodies_from k s ≡ bodies_of s

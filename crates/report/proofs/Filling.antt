@@ -1,71 +1,83 @@
 -- Text put into lent bytes piece by piece: what is put so far and what is still to come are the whole.
 use mathlib.Core.Path.{◌≡◌, refl, sym, ◌∙◌, ap}
 use mathlib.Core.List.{List, [], ◌++◌, append_assoc, append-nil}
-use Prim.Native.Nat.{ℕ, ◌+◌, ◌≤◌, ◌<◌}
+use Prim.Native.Nat.{ℕ, ◌+◌, ◌≤◌}
+use native.Mathlib.Nat.{add-zero}
 use native.Mathlib.Omega.{arith}
-use lib.ListN.{length, take, drop, length-append, length-drop, take-append-drop, get_or, set}
-use lib.Seq.{take_at, drop_at, drop-drop, length-take-le, take-length, paste, paste-suc}
-use native.Mathlib.Numerals.{add-one}
-use Rattle.report.specs.Text.{onto}
-use Rattle.report.specs.Scan.{put_at}
+use lib.ListN.{length, take, drop, take-append-drop, length-append, length-drop}
+use lib.Seq.{take_at, drop_at, drop-drop, length-take-le}
+use Rattle.report.specs.declared.lines.Lines.{Lines}
+use Rattle.report.specs.Scan.{put_at, HasRoom, Put}
 
--- of the whole text, rest is still to come; used bytes of out hold what came before it, and the others are as in o
-pub record Filling (whole rest o : List ℕ) (used : ℕ) (out : List ℕ) : Type 0 where
-  pub room : used ≤ length out
-  pub same : length out ≡ length o
-  pub tail : drop used out ≡ drop used o
-  pub made : take used out ++ rest ≡ whole
-  pub fits : length whole ≤ length o
+module _ (o : List ℕ) (used : ℕ) (a : List ℕ) (room : used + length a ≤ length o) where
+  front : List ℕ
+  front = take used o ++ a
 
-pub fill_begins : (o : List ℕ) (used : ℕ) (text : List ℕ) → used + length text ≤ length o → Filling (take used o ++ text) text o used o
-fill_begins o used text h =
-    record {
-      room = omega arith;
-      same = refl;
-      tail = refl;
-      made = refl;
-      fits = omega (arith, length-append (take used o) text, length-take-le used o (omega arith));
-    }
+  sized : length front ≡ used + length a
+  unfolding front
+  sized = length-append (take used o) a ∙ omega (arith, length-take-le used o (omega arith))
 
-module _ (whole a rest o : List ℕ) (used : ℕ) (out : List ℕ) (f : Filling whole (a ++ rest) o used out) where
-  pub fill_room : used + length a ≤ length out
-  fill_room =
-      omega (arith, ap length f.made, length-append (take used out) (a ++ rest), length-append a rest, length-take-le used out f.room, f.fits, f.same)
+  split : put_at used a o ≡ front ++ drop (used + length a) o
+  unfolding front
+  split = sym (append_assoc (take used o) a (drop (used + length a) o))
 
-  pub fill_put : (used' : ℕ) (out' : List ℕ) → used' ≡ used + length a → out' ≡ put_at used a out → Filling whole rest o used' out'
-  fill_put used' out' e h =
-      let front : List ℕ = take used out ++ a in
-      let sized : length front ≡ used' = length-append (take used out) a ∙ omega (arith, length-take-le used out f.room) in
-      let split : out' ≡ front ++ drop used' out = h ∙ rw (← e) (sym (append_assoc (take used out) a (drop used' out))) in
-      let size : length out' ≡ length out = ap length split ∙ length-append front (drop used' out) ∙ omega (arith, sized, length-drop used' out, fill_room) in
-      let behind : drop used' out' ≡ drop used' out = rw split (drop_at front (drop used' out) used' sized) in
-      record {
-        room = omega (arith, fill_room);
-        same = size ∙ f.same;
-        tail = behind ∙ rw e (sym (drop-drop (length a) used out) ∙ ap (λ (l : List ℕ). drop (length a) l) f.tail ∙ drop-drop (length a) used o);
-        made = rw split (rw (take_at front (drop used' out) used' sized) (append_assoc (take used out) a rest ∙ f.made));
-        fits = f.fits;
-      }
+  put_size : length (put_at used a o) ≡ length o
+  put_size = ap length split ∙ length-append front (drop (used + length a) o) ∙ omega (arith, sized, length-drop (used + length a) o)
 
-pub fill_end : (whole o : List ℕ) (used : ℕ) (out : List ℕ) → Filling whole [] o used out → (used ≡ length whole) × (out ≡ onto whole o)
-fill_end whole o used out f =
-    let front : take used out ≡ whole = sym (append-nil (take used out)) ∙ f.made in
-    let sized : used ≡ length whole = sym (length-take-le used out f.room) ∙ ap length front in
-    (sized, sym (take-append-drop used out) ∙ rw (front, f.tail, sized) refl)
+  -- one text behind the other is both at once
+  put_twice : (b : List ℕ) → put_at (used + length a) b (put_at used a o) ≡ put_at used (a ++ b) o
+  unfolding front
+  put_twice b =
+      let before : take (used + length a) (put_at used a o) ≡ front = rw split (take_at front (drop (used + length a) o) (used + length a) sized) in
+      let behind : drop (used + length a) (put_at used a o) ≡ drop (used + length a) o = rw split (drop_at front (drop (used + length a) o) (used + length a) sized) in
+      let rest : drop (used + length a + length b) (put_at used a o) ≡ drop (used + length a + length b) o =
+      sym (drop-drop (length b) (used + length a) (put_at used a o)) ∙ ap (λ (l : List ℕ). drop (length b) l) behind ∙ drop-drop (length b) (used + length a) o in
+      let long : used + length a + length b ≡ used + length (a ++ b) = omega (arith, length-append a b) in
+      rw (before, rest, long) (simp append_assoc)
 
--- .. where the whole is what stood before a place, and a text from there on
-pub fill_done : (o : List ℕ) (used : ℕ) (text : List ℕ) → used + length text ≤ length o → (at : ℕ) (out : List ℕ) → Filling (take used o ++ text) [] o at out → (at ≡ used + length text) × (out ≡ put_at used text o)
-fill_done o used text h at out f =
-    let end = fill_end (take used o ++ text) o at out f in
-    let sized : length (take used o ++ text) ≡ used + length text = length-append (take used o) text ∙ omega (arith, length-take-le used o (omega arith)) in
-    (end.0 ∙ sized, end.1 ∙ rw sized (append_assoc (take used o) text (drop (used + length text) o)))
+pub room_first : (a b : List ℕ) (l : Lines) → HasRoom l (a ++ b) → HasRoom l a
+room_first a b l room = omega (arith, length-append a b)
 
--- .. byte by byte
-module _ (o : List ℕ) (used : ℕ) (text : List ℕ) (room : used + length text ≤ length o) where
-  pub copied : (i : ℕ) (out : List ℕ) → i < length text → out ≡ paste o used text i → set out (used + i) (get_or text i 0) ≡ paste o used text (i + 1)
-  copied i out h e = rw (e, add-one i) (paste-suc o used text i 0 (omega arith) h)
+module _ (a b : List ℕ) (l m : Lines) (room : HasRoom l (a ++ b)) (p : Put a l m) where
+  pub room_left : HasRoom m b
+  room_left = omega (arith, length-append a b, room, p.used, ap length p.out, put_size l.out.now l.used a (room_first a b l room))
 
-  pub copied_all : (i : ℕ) (out : List ℕ) → i ≤ length text → length text ≤ i → out ≡ paste o used text i → out ≡ put_at used text o
-  copied_all i out h k e =
-      let z : i ≡ length text = omega arith in
-      e ∙ ap (λ (j : ℕ). paste o used text j) z ∙ ap (λ (l : List ℕ). take used o ++ l ++ drop (used + length text) o) (take-length text) ∙ append_assoc (take used o) text (drop (used + length text) o)
+  pub put_then : (n : Lines) → Put b m n → Put (a ++ b) l n
+  put_then n q = record {
+    same = q.same ∙ p.same;
+    used = omega (arith, length-append a b, p.used, q.used);
+    out = q.out ∙ rw (p.used, p.out) (put_twice l.out.now l.used a (room_first a b l room) b);
+  }
+
+-- of the whole text, rest is still to come
+pub record Filling (whole rest : List ℕ) (before now : Lines) : Type 0 where
+  pub made : List ℕ
+  pub put : Put made before now
+  pub all : made ++ rest ≡ whole
+  pub fits : HasRoom before whole
+
+pub fill_begins : (text : List ℕ) (l : Lines) → HasRoom l text → Filling text text l l
+fill_begins text l h = record {
+  made = [];
+  put = record { same = refl; used = omega arith; out = sym (take-append-drop l.used l.out.now) ∙ rw add-zero refl };
+  all = refl;
+  fits = h;
+}
+
+module _ (whole a rest : List ℕ) (before now : Lines) (f : Filling whole (a ++ rest) before now) where
+  room : HasRoom before (f.made ++ (a ++ rest))
+  room = rw f.all f.fits
+
+  pub fill_room : HasRoom now a
+  fill_room = omega (arith, room_left f.made (a ++ rest) before now room f.put, length-append a rest)
+
+  pub fill_put : (after : Lines) → Put a now after → Filling whole rest before after
+  fill_put after p = record {
+    made = f.made ++ a;
+    put = put_then f.made a before now (omega (arith, room, length-append f.made (a ++ rest), length-append f.made a, length-append a rest)) f.put after p;
+    all = append_assoc f.made a rest ∙ f.all;
+    fits = f.fits;
+  }
+
+pub fill_end : (whole : List ℕ) (before now : Lines) → Filling whole [] before now → Put whole before now
+fill_end whole before now f = rw (← f.all, append-nil f.made) f.put

@@ -4,7 +4,7 @@ pub mod Filling
 pub mod Putting
 pub mod Next
 pub mod Sizes
-pub mod Running
 pub mod Facts
+pub mod Running
 pub mod Unique
 mod Worked

@@ -25,9 +25,8 @@ use Rattle.message.specs.Reading.{header_fault, map_of, verdict_of, read_of}
 use Rattle.message.proofs.Ways.{or_none}
 use Rattle.message.proofs.Accepted.{Accept, accepted, whole_step}
 use Rattle.report.specs.declared.bodies.Row.{Row}
-use Rattle.report.specs.declared.bodies.Body.{Body}
-use Rattle.report.specs.declared.bodies.Body.TheVariants.{Map, Bad}
-use Rattle.report.specs.Bodies.{size_of, body_by, next_of}
+use Rattle.std.specs.Prelude.{Ok, Err}
+use Rattle.report.specs.Bodies.{Body, size_of, body_by, next_of}
 
 -- what measures at most m on both sides of a test
 pub at_most : {A : Type 0} (f : A → ℕ) (m : ℕ) (b : Bool) (x y : A) → f x ≤ m → f y ≤ m → f (cond b x y) ≤ m
@@ -44,8 +43,8 @@ refusal_in (Accepted reading) = 0
 refusal_in (Refused why) = why.number
 
 abbrev pub bad_in : Body → ℕ
-bad_in (Map row) = 0
-bad_in (Bad why) = why
+bad_in (Ok row) = 0
+bad_in (Err why) = why
 
 abbrev itself : ℕ → ℕ
 itself n = n
@@ -120,7 +119,7 @@ pub record Good (s : List ℕ) (row : Row) : Type 0 where
   pub inside : size_of row.n ≤ length s
   pub start : row.start.0 ≡ word_at s 4
 
-not_bad : (b : Bool) (why : ℕ) (x : Body) (row : Row) → cond b (Bad why) x ≡ Map row → (b ≡ false) × (x ≡ Map row)
+not_bad : (b : Bool) (why : ℕ) (x : Body) (row : Row) → cond b (Err why) x ≡ Ok row → (b ≡ false) × (x ≡ Ok row)
 not_bad true why x row e = let z : ◌≡◌ {A = ℕ} 0 1 = cc in absurd (omega arith)
 not_bad false why x row e = (refl, e)
 
@@ -137,7 +136,7 @@ module _ (s : List ℕ) (row : Row) where
   unfolding body
   count_of_body = get_or-take (size_of (count_of s)) s 2 0 (omega arith)
 
-  good_reading : (reading : Reading) → read_of body ≡ Accepted reading → Map (record { start = reading.fields.start; length = reading.length; n = reading.n }) ≡ Map row → size_of (count_of s) ≤ length s → Good s row
+  good_reading : (reading : Reading) → read_of body ≡ Accepted reading → body_by (Accepted reading) ≡ Ok row → size_of (count_of s) ≤ length s → Good s row
   unfolding fields_of
   good_reading reading is x inside =
       let a = accepted body reading is in
@@ -154,7 +153,7 @@ module _ (s : List ℕ) (row : Row) where
         start = sym start ∙ ap (λ (f : Fields). f.start.0) a.fields ∙ word_of_body;
       }
 
-  pub next_good : next_of s ≡ Map row → Good s row
+  pub next_good : next_of s ≡ Ok row → Good s row
   unfolding next_of body
   next_good e =
       let one = not_bad (ltb (length s) 16) 1 _ row e in
@@ -162,6 +161,6 @@ module _ (s : List ℕ) (row : Row) where
       let three = not_bad (ltb (length s) (size_of (count_of s))) 3 _ row two.1 in
       go (read_of (take (size_of (count_of s)) s)) refl three.1 (ltb-false (length s) (size_of (count_of s)) three.0)
     where
-      go : (v : Verdict) → read_of (take (size_of (count_of s)) s) ≡ v → body_by v ≡ Map row → size_of (count_of s) ≤ length s → Good s row
+      go : (v : Verdict) → read_of (take (size_of (count_of s)) s) ≡ v → body_by v ≡ Ok row → size_of (count_of s) ≤ length s → Good s row
       go (Accepted reading) is x inside = good_reading reading is x inside
       go (Refused why) is x inside = let z : ◌≡◌ {A = ℕ} 0 1 = cc in absurd (omega arith)

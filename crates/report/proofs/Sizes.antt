@@ -14,9 +14,8 @@ use Rattle.slots.specs.Time.{ahead, moved_on}
 use Rattle.slots.specs.Span.{Described, end_of, qualifies, further, furthest, over, span_from, span_of}
 use Rattle.message.specs.Element.{word_at}
 use Rattle.report.specs.declared.bodies.Row.{Row}
-use Rattle.report.specs.declared.bodies.Body.{Body}
-use Rattle.report.specs.declared.bodies.Body.TheVariants.{Map, Bad}
-use Rattle.report.specs.Bodies.{size_of, next_of, and_more, bodies_from, bodies_of, maps_in}
+use Rattle.std.specs.Prelude.{Ok, Err}
+use Rattle.report.specs.Bodies.{Body, size_of, next_of, and_more, bodies_from, bodies_of, maps_in}
 use Rattle.report.specs.Decimal.{decimal_of}
 use Rattle.report.specs.Text.{field_of, fields_of, line_of, map_line, refused_line, span_line, lines_from, text_of}
 use Rattle.report.specs.Report.{enough, report_of, refused_input}
@@ -106,7 +105,7 @@ lines_short (suc k) i s bytes h =
     (go (next_of s) refl (λ t more fits. lines_short k (i + 1) t more fits))
   where
     go : (b : Body) → next_of s ≡ b → ((t : List ℕ) → Bytes t → 24 * (i + 1) + length t ≤ 65536 → length (lines_from (i + 1) (bodies_from k t)) ≤ 16 + 35 * (length t / 24)) → length (lines_from i (and_more b (λ n. bodies_from k (drop n s)))) ≤ 16 + 35 * (length s / 24)
-    go (Map row) e more =
+    go (Ok row) e more =
         let g = next_good s row e in
         let size = size_of row.n in
         let left = drop size s in
@@ -119,7 +118,7 @@ lines_short (suc k) i s bytes h =
           g.some,
           g.inside,
         )
-    go (Bad why) e more = omega (arith, refused_short i why (omega arith) (rw e at (next_most s)))
+    go (Err why) e more = omega (arith, refused_short i why (omega arith) (rw e at (next_most s)))
 
 pub text_short : (s : List ℕ) → Bytes s → length s ≤ 65536 → length (text_of s) ≤ enough (length s)
 unfolding text_of
@@ -140,6 +139,6 @@ report_short s bytes = go (ltb 65536 (length s)) refl
     go true e = omega arith
     go false e = text_short s bytes (ltb-false 65536 (length s) e)
 
--- .. and `Reported::ROOM` for an input of any length
+-- .. and `ROOM` for an input of any length
 pub room_for_all : (n : ℕ) → enough n ≤ 95593
 room_for_all n = omega (arith, min-le_left 65536 n)

@@ -1,13 +1,16 @@
 -- Document 01, "The report": "at most 65,536 bytes of MAP bodies back to back".
-use Rattle.std.specs.Prelude.{ℕ, zero, suc, ◌+◌, ◌*◌, cond, ◌||◌, List, [], ◌∷◌, ltb, eqb, length, take, drop}
+use Rattle.std.specs.Prelude.{ℕ, zero, suc, ◌+◌, ◌*◌, cond, ◌||◌, List, [], ◌∷◌, ltb, eqb, length, take, drop, Result, Ok, Err}
 use Rattle.slots.specs.Span.{Described}
 use Rattle.message.specs.declared.reading.Verdict.{Verdict}
 use Rattle.message.specs.declared.reading.Verdict.TheVariants.{Accepted, Refused}
 use Rattle.rules.specs.Refusals.{Short, Count, Length, number_of}
 use Rattle.message.specs.Fields.{count_of}
 use Rattle.message.specs.Reading.{read_of}
-use Rattle.report.specs.declared.bodies.Body.{Body}
-use Rattle.report.specs.declared.bodies.Body.TheVariants.{Map, Bad}
+use Rattle.report.specs.declared.bodies.Row.{Row}
+
+-- a MAP, or the number of its refusal
+abbrev pub Body : Type 0
+Body = Result Row ℕ
 
 -- "Each body takes 16 + 4n bytes"
 abbrev pub size_of : ℕ → ℕ
@@ -15,21 +18,21 @@ size_of n = 16 + 4 * n
 
 -- the message's own answer: start, map length and n, or the refusal number
 abbrev pub body_by : Verdict → Body
-body_by (Accepted reading) = Map (record { start = reading.fields.start; length = reading.length; n = reading.n })
-body_by (Refused why) = Bad why.number
+body_by (Accepted reading) = Ok (record { start = reading.fields.start; length = reading.length; n = reading.n })
+body_by (Refused why) = Err why.number
 
 -- "under 16 left is 1"; n 0 or over 240 is 2; "fewer than 16 + 4n left is 3"; then the message's own
 unfoldable pub next_of : List ℕ → Body
 next_of s =
-    cond (ltb (length s) 16) (Bad (number_of Short))
-    (cond (eqb (count_of s) 0 || ltb 240 (count_of s)) (Bad (number_of Count))
-    (cond (ltb (length s) (size_of (count_of s))) (Bad (number_of Length))
+    cond (ltb (length s) 16) (Err (number_of Short))
+    (cond (eqb (count_of s) 0 || ltb 240 (count_of s)) (Err (number_of Count))
+    (cond (ltb (length s) (size_of (count_of s))) (Err (number_of Length))
     (body_by (read_of (take (size_of (count_of s)) s)))))
 
 -- a MAP, and what follows it; "The first bad one .. ends reading"
 abbrev pub and_more : Body → (ℕ → List Body) → List Body
-and_more (Map row) more = Map row ∷ more (size_of row.n)
-and_more (Bad why) more = Bad why ∷ []
+and_more (Ok row) more = Ok row ∷ more (size_of row.n)
+and_more (Err why) more = Err why ∷ []
 
 -- at most k bodies, one after the other; nothing left is the end
 unfoldable pub bodies_from : ℕ → List ℕ → List Body
@@ -43,5 +46,5 @@ bodies_of s = bodies_from (length s) s
 -- "over the MAPs before it": the good ones, as far as the span goes
 unfoldable pub maps_in : List Body → List Described
 maps_in [] = []
-maps_in (Map row ∷ bs) = record { start = row.start.0; length = row.length } ∷ maps_in bs
-maps_in (Bad why ∷ bs) = []
+maps_in (Ok row ∷ bs) = record { start = row.start.0; length = row.length } ∷ maps_in bs
+maps_in (Err why ∷ bs) = []

@@ -1,13 +1,11 @@
 -- Document 01, "The report": its text, in ASCII.
-use Rattle.std.specs.Prelude.{ℕ, ◌+◌, List, [], ◌∷◌, ◌++◌, length, drop}
+use Rattle.std.specs.Prelude.{ℕ, ◌+◌, List, [], ◌∷◌, ◌++◌, length, drop, Ok, Err}
 use Rattle.slots.specs.declared.span.Span.{Span}
 use Rattle.slots.specs.declared.span.Span.TheVariants.{Nothing, Lost, Over}
 use Rattle.slots.specs.Time.{moved_on}
 use Rattle.slots.specs.Span.{span_of}
 use Rattle.report.specs.declared.bodies.Row.{Row}
-use Rattle.report.specs.declared.bodies.Body.{Body}
-use Rattle.report.specs.declared.bodies.Body.TheVariants.{Map, Bad}
-use Rattle.report.specs.Bodies.{bodies_of, maps_in}
+use Rattle.report.specs.Bodies.{Body, bodies_of, maps_in}
 use Rattle.report.specs.Decimal.{decimal_of}
 
 -- one space, and a number
@@ -49,8 +47,8 @@ span_line (Over e l) =
 -- a line for each body from number i on; the bad one is the last
 unfoldable pub lines_from : ℕ → List Body → List ℕ
 lines_from i [] = []
-lines_from i (Map row ∷ bs) = map_line i row ++ lines_from (i + 1) bs
-lines_from i (Bad why ∷ bs) = refused_line i why
+lines_from i (Ok row ∷ bs) = map_line i row ++ lines_from (i + 1) bs
+lines_from i (Err why ∷ bs) = refused_line i why
 
 -- "Last, over the MAPs before it, `span`"
 unfoldable pub text_of : List ℕ → List ℕ

@@ -1,5 +1,5 @@
 // MAP bodies back to back: each takes 16 + 4n bytes.
-ghost use Rattle.std.specs.Prelude.{◌≡◌, ◌<◌};
+ghost use Rattle.std.specs.Prelude.{◌≡◌};
 ghost use Rattle.report.specs.Bodies.{body_by, next_of};
 
 use message::{Verdict, read};
@@ -14,53 +14,35 @@ pub struct Row {
     pub n: u32,
 }
 
-// What stands next in the input: a MAP, or the number of its refusal.
-#[derive(Clone, Copy)]
-pub enum Body {
-    Map(Row),
-    Bad(u32),
-}
-
-fn body_by(verdict: Verdict) -> Body
+fn body_by(verdict: Verdict) -> Result<Row, u32>
     ensures { result ≡ body_by verdict }
 {
     match verdict {
         Verdict::Accepted(reading) => {
             let fields = reading.fields;
-            let start = fields.start;
-            Body::Map(Row {
-                start,
+            Ok(Row {
+                start: fields.start,
                 length: reading.length,
                 n: reading.n,
             })
         }
-        Verdict::Refused(refusal) => Body::Bad(refusal.number),
+        Verdict::Refused(refusal) => Err(refusal.number),
     }
 }
 
-fn wide(x: u8) -> usize
-    ensures { (result ≡ x) × (result < 256) }
-{
-    x as usize
-}
-
-// The body at the start of what is left of the input.
-pub(crate) fn next_body(left: &[u8]) -> Body
+// What stands at the start of what is left of the input: a MAP, or the number of its refusal.
+pub(crate) fn next_body(left: &[u8]) -> Result<Row, u32>
     ensures { result ≡ next_of left.now }
 {
     if left.len() < 16 {
-        return Body::Bad(Refusal::SHORT);
+        return Err(Refusal::SHORT);
     }
-    let n = wide(left[2]);
-    if n == 0 {
-        return Body::Bad(Refusal::COUNT);
+    let n = usize::from(left[2]);
+    if n == 0 || 240 < n {
+        return Err(Refusal::COUNT);
     }
-    if 240 < n {
-        return Body::Bad(Refusal::COUNT);
-    }
-    let size = 16 + 4 * n;
-    if left.len() < size {
-        return Body::Bad(Refusal::LENGTH);
-    }
-    body_by(read(&left[0..size]))
+    let Some(body) = left.get(..16 + 4 * n) else {
+        return Err(Refusal::LENGTH);
+    };
+    body_by(read(body))
 }

@@ -5,4 +5,4 @@ pub mod bodies;
 pub mod lines;
 pub mod reporting;
 
-pub use reporting::{Reported, enough, report};
+pub use reporting::{LONGEST_INPUT, ROOM, enough, report};

@@ -1,10 +1,10 @@
 use lib.ListN.{length}
-use Prim.Native.Nat.{◌-◌, ◌≤◌}
+use Rattle.report.specs.Text.{text_of}
 use Rattle.report.proofs.Running.{Going}
 use Rattle.report.proofs.reporting.put_all.Given as goal
 
-abbrev pub invariant-loop-at : goal.invariant-loop-at
-invariant-loop-at l = (length l.input ≤ 65536) × Going l.input l.initial.out l.at l.number l.used l.span l.out
+abbrev pub invariant-loop-left : goal.invariant-loop-left
+invariant-loop-left l = Going (text_of l.input) l.left l.number l.span l.initial.lines l.lines
 
-abbrev pub decreases-loop-at : goal.decreases-loop-at
-decreases-loop-at l = length l.input - l.at
+abbrev pub decreases-loop-left : goal.decreases-loop-left
+decreases-loop-left l = length l.left
