@@ -8,16 +8,18 @@ use lib.Seq.{take_at, drop_at, drop-drop, length-take-le, take-length}
 use Rattle.std.proofs.lemmas.List.{take_more}
 use Rattle.message.proofs.Ways.{said, said_not}
 use Rattle.rules.specs.declared.element.Element.{Element}
-use Rattle.writer.specs.Writing.{bytes_of, word_of, header_of, elements_of, message_of, laid_out, onto, room_for, written_by, written_of, write_into}
+use Rattle.writer.specs.Writing.{bytes_of, word_of, header_of, elements_of, message_of, laid_out, onto, room_for, written_of, write_into}
 use Rattle.rules.specs.declared.fields.Fields.{Fields}
 use borrow.Author.Tests.{le-leb, lt-leb, lt-ltb, le-ltb, eq-eqb, ne_eqb, ltb-false, eqb-false}
 use mathlib.Core.Bool.{Bool, true, false, cond}
 use lib.Dec.{ltb, eqb}
 use Rattle.rules.specs.declared.refusal.Refusal.{Refusal}
-use Rattle.rules.specs.declared.rules.Walked.{Walked}
-use Rattle.rules.specs.declared.rules.Walked.TheVariants.{Whole, Fault}
-use Rattle.writer.specs.declared.writing.Written.{Written}
-use Rattle.writer.specs.declared.writing.Written.TheVariants.{Size, Refused}
+use Rattle.std.specs.Prelude.{Result, Ok, Err}
+use Rattle.rules.specs.declared.rules.Whole.{Whole}
+use Rattle.rules.specs.declared.refusal.Reason.{Reason}
+use Rattle.rules.specs.declared.refusal.Reason.TheVariants.{Count, Backoff, Room}
+use Rattle.rules.specs.Refusals.{refusal}
+use Rattle.message.proofs.Accepted.{as_whole}
 use Rattle.rules.specs.Backoffs.{bad_backoffs}
 use Rattle.rules.specs.declared.rules.Progress.{Progress}
 use Rattle.rules.specs.Rules.{walked, nothing_yet, fault_of, advanced, ended_at}
@@ -105,8 +107,8 @@ module _ (f : Fields) (es : List Element) (o : List ℕ) where
   not_laid h = rw (lt-leb (16 + 4 * length es) (length o) h) refl
 
 -- what is left of a walk gives the answer of the whole
-module _ (i : ℕ) (p : Progress) (left : List Element) (whole : Walked) (same : walked i p left ≡ whole) where
-  pub walk_ends : (r : Walked) → length left ≡ 0 → r ≡ ended_at i p → r ≡ whole
+module _ (i : ℕ) (p : Progress) (left : List Element) (whole : Result Whole Refusal) (same : walked i p left ≡ whole) where
+  pub walk_ends : (r : Result Whole Refusal) → length left ≡ 0 → r ≡ ended_at i p → r ≡ whole
   unfolding walked
   walk_ends r none e = go left none same
     where
@@ -114,47 +116,46 @@ module _ (i : ℕ) (p : Progress) (left : List Element) (whole : Walked) (same :
       go [] h w = e ∙ w
       go (x ∷ es) h w = absurd (omega arith)
 
-  module _ (e : Element) (after : List Element) (here : left ≡ e ∷ after) (f : ℕ) (is : f ≡ fault_of p e) where
-    pub walk_stops : (f ≡ 0 → ⊥) → Fault (record { number = f; element = i }) ≡ whole
+  module _ (e : Element) (after : List Element) (here : left ≡ e ∷ after) (f : Result Unit Reason) (is : f ≡ fault_of p e) where
+    pub walk_stops : (why : Reason) → f ≡ Err why → Err (refusal why i) ≡ whole
     unfolding walked
-    walk_stops k = rw (here, ne_eqb (fault_of p e) 0 (λ z. k (is ∙ z)), ← is) at same
+    walk_stops why k = rw (here, ← is, k) at same
 
-    pub walk_goes_on : f ≡ 0 → (q : Progress) → q ≡ advanced p e i → walked (i + 1) q after ≡ whole
+    pub walk_goes_on : f ≡ Ok tt → (q : Progress) → q ≡ advanced p e i → walked (i + 1) q after ≡ whole
     unfolding walked
-    walk_goes_on k q g = rw (here, eq-eqb (fault_of p e) 0 (sym is ∙ k), ← g) at same
+    walk_goes_on k q g = rw (here, ← is, k, ← g) at same
 
 -- the ways through the writer's decision
 module _ (size room : ℕ) where
-  pub room_short : room < size → Refused (record { number = 11; element = 0 }) ≡ room_for size room
-  room_short h = rw (lt-ltb room size h) refl
+  pub room_short : (r : Refusal) → room < size → r ≡ refusal Room 0 → Err r ≡ room_for size room
+  room_short r h e = rw (lt-ltb room size h, e) refl
 
-  pub room_enough : size ≤ room → Size size ≡ room_for size room
+  pub room_enough : size ≤ room → Ok size ≡ room_for size room
   room_enough h = rw (le-ltb room size h) refl
 
-  pub by_whole : (w : Walked) (k l : ℕ) (r : Written) → w ≡ Whole k l → r ≡ room_for size room → r ≡ written_by w size room
-  by_whole w k l r e h = rw e h
-
-  pub by_fault : (w : Walked) (why : Refusal) → w ≡ Fault why → Refused why ≡ written_by w size room
-  by_fault w why e = rw e refl
-
 module _ (f : Fields) (es : List Element) (room : ℕ) where
-  pub write_none : length es ≡ 0 → Refused (record { number = 2; element = 0 }) ≡ written_of f es room
+  pub write_none : (r : Refusal) → length es ≡ 0 → r ≡ refusal Count 0 → Err r ≡ written_of f es room
   unfolding written_of
-  write_none h = rw (eq-eqb (length es) 0 h) refl
+  write_none r h e = rw (eq-eqb (length es) 0 h, e) refl
 
   module _ (some : length es ≡ 0 → ⊥) where
-    pub write_many : 240 < length es → Refused (record { number = 2; element = 0 }) ≡ written_of f es room
+    pub write_many : (r : Refusal) → 240 < length es → r ≡ refusal Count 0 → Err r ≡ written_of f es room
     unfolding written_of
-    write_many h = rw (ne_eqb (length es) 0 some, lt-ltb 240 (length es) h) refl
+    write_many r h e = rw (ne_eqb (length es) 0 some, lt-ltb 240 (length es) h, e) refl
 
     module _ (few : length es ≤ 240) where
-      pub write_backoff : bad_backoffs f ≡ true → Refused (record { number = 4; element = 0 }) ≡ written_of f es room
+      pub write_backoff : (r : Refusal) → bad_backoffs f ≡ true → r ≡ refusal Backoff 0 → Err r ≡ written_of f es room
       unfolding written_of
-      write_backoff h = rw (ne_eqb (length es) 0 some, le-ltb 240 (length es) few, h) refl
+      write_backoff r h e = rw (ne_eqb (length es) 0 some, le-ltb 240 (length es) few, h, e) refl
 
-      pub write_walked : (w : Walked) (r : Written) → bad_backoffs f ≡ false → w ≡ walked 0 nothing_yet es → r ≡ written_by w (16 + 4 * length es) room → r ≡ written_of f es room
-      unfolding written_of
-      write_walked w r h a b = rw (ne_eqb (length es) 0 some, le-ltb 240 (length es) few, h, ← a) b
+      module _ (good : bad_backoffs f ≡ false) (w : Result Whole Refusal) (is : w ≡ walked 0 nothing_yet es) where
+        pub write_fault : (why : Refusal) → w ≡ Err why → Err why ≡ written_of f es room
+        unfolding written_of
+        write_fault why h = rw (ne_eqb (length es) 0 some, le-ltb 240 (length es) few, good, sym is ∙ h) refl
+
+        pub write_walked : (v : Whole) (r : Result ℕ Refusal) → w ≡ Ok v → r ≡ room_for (16 + 4 * length es) room → r ≡ written_of f es room
+        unfolding written_of
+        write_walked v r h b = rw (ne_eqb (length es) 0 some, le-ltb 240 (length es) few, good, sym is ∙ h) b
 
 -- what a message is that is written
 pub record Writes (f : Fields) (es : List Element) (room size : ℕ) : Type 0 where
@@ -163,32 +164,32 @@ pub record Writes (f : Fields) (es : List Element) (room size : ℕ) : Type 0 wh
   pub backoffs : bad_backoffs f ≡ false
   pub null : ℕ
   pub end : ℕ
-  pub walk : walked 0 nothing_yet es ≡ Whole null end
+  pub walk : walked 0 nothing_yet es ≡ as_whole null end
   pub fits : 16 + 4 * length es ≤ room
   pub sized : size ≡ 16 + 4 * length es
 
 module _ (f : Fields) (es : List Element) (room size : ℕ) where
-  sizes : (b : Bool) → ltb room (16 + 4 * length es) ≡ b → cond b (Refused (record { number = 11; element = 0 })) (Size (16 + 4 * length es)) ≡ Size size → (16 + 4 * length es ≤ room) × (size ≡ 16 + 4 * length es)
+  sizes : (b : Bool) → ltb room (16 + 4 * length es) ≡ b → cond b (Err (refusal Room 0)) (Ok (16 + 4 * length es)) ≡ Ok size → (16 + 4 * length es ≤ room) × (size ≡ 16 + 4 * length es)
   sizes true p e = absurd (let y : ◌≡◌ {A = ℕ} 0 1 = cc in omega arith)
   sizes false p e = (ltb-false room (16 + 4 * length es) p, cc)
 
-  pub writes : written_of f es room ≡ Size size → Writes f es room size
+  pub writes : written_of f es room ≡ Ok size → Writes f es room size
   unfolding written_of
   writes e = go (eqb (length es) 0) refl (ltb 240 (length es)) refl (bad_backoffs f) refl (walked 0 nothing_yet es) refl
     where
-      go : (z : Bool) → eqb (length es) 0 ≡ z → (b : Bool) → ltb 240 (length es) ≡ b → (c : Bool) → bad_backoffs f ≡ c → (w : Walked) → walked 0 nothing_yet es ≡ w → Writes f es room size
-      go true x b p c q w r = let z : Refused (record { number = 2; element = 0 }) ≡ Size size = (rw x at e) in absurd (let y : ◌≡◌ {A = ℕ} 0 1 = cc in omega arith)
-      go false x true p c q w r = let z : Refused (record { number = 2; element = 0 }) ≡ Size size = (rw (x, p) at e) in absurd (let y : ◌≡◌ {A = ℕ} 0 1 = cc in omega arith)
-      go false x false p true q w r = let z : Refused (record { number = 4; element = 0 }) ≡ Size size = (rw (x, p, q) at e) in absurd (let y : ◌≡◌ {A = ℕ} 0 1 = cc in omega arith)
-      go false x false p false q (Fault why) r = let z : Refused why ≡ Size size = (rw (x, p, q, r) at e) in absurd (let y : ◌≡◌ {A = ℕ} 0 1 = cc in omega arith)
-      go false x false p false q (Whole k l) r =
+      go : (z : Bool) → eqb (length es) 0 ≡ z → (b : Bool) → ltb 240 (length es) ≡ b → (c : Bool) → bad_backoffs f ≡ c → (w : Result Whole Refusal) → walked 0 nothing_yet es ≡ w → Writes f es room size
+      go true x b p c q w r = let z : ◌≡◌ {A = Result ℕ Refusal} (Err (refusal Count 0)) (Ok size) = (rw x at e) in absurd (let y : ◌≡◌ {A = ℕ} 0 1 = cc in omega arith)
+      go false x true p c q w r = let z : ◌≡◌ {A = Result ℕ Refusal} (Err (refusal Count 0)) (Ok size) = (rw (x, p) at e) in absurd (let y : ◌≡◌ {A = ℕ} 0 1 = cc in omega arith)
+      go false x false p true q w r = let z : ◌≡◌ {A = Result ℕ Refusal} (Err (refusal Backoff 0)) (Ok size) = (rw (x, p, q) at e) in absurd (let y : ◌≡◌ {A = ℕ} 0 1 = cc in omega arith)
+      go false x false p false q (Err why) r = let z : ◌≡◌ {A = Result ℕ Refusal} (Err why) (Ok size) = (rw (x, p, q, r) at e) in absurd (let y : ◌≡◌ {A = ℕ} 0 1 = cc in omega arith)
+      go false x false p false q (Ok v) r =
           let both = sizes (ltb room (16 + 4 * length es)) refl (rw (x, p, q, r) at e) in
           record {
             some = one (length es) (eqb-false (length es) 0 x);
             few = ltb-false 240 (length es) p;
             backoffs = q;
-            null = k;
-            end = l;
+            null = v.null;
+            end = v.length;
             walk = r;
             fits = both.0;
             sized = both.1;
@@ -199,17 +200,17 @@ module _ (f : Fields) (es : List Element) (room size : ℕ) where
           one (suc n) h = omega arith
 
 -- what was decided is done
-module _ (f : Fields) (es : List Element) (old : List ℕ) (a : Written) (is : a ≡ written_of f es (length old)) where
-  pub write_done : (size : ℕ) (new : List ℕ) → a ≡ Size size → new ≡ laid_out f es old → (Size size ≡ written_of f es (length old)) × (new ≡ write_into f es old)
+module _ (f : Fields) (es : List Element) (old : List ℕ) (a : Result ℕ Refusal) (is : a ≡ written_of f es (length old)) where
+  pub write_done : (size : ℕ) (new : List ℕ) → a ≡ Ok size → new ≡ laid_out f es old → (Ok size ≡ written_of f es (length old)) × (new ≡ write_into f es old)
   unfolding laid_out
   write_done size new e h =
-      let done : Size size ≡ written_of f es (length old) = sym e ∙ is in
+      let done : Ok size ≡ written_of f es (length old) = sym e ∙ is in
       (done, rw (← done) (h ∙ laid_room))
     where
       laid_room : laid_out f es old ≡ onto (message_of f es) old
       laid_room = rw (le-leb (16 + 4 * length es) (length old) (writes f es (length old) size (sym is ∙ e)).fits) refl
 
-  pub write_refused : (why : Refusal) → a ≡ Refused why → (Refused why ≡ written_of f es (length old)) × (old ≡ write_into f es old)
-  write_refused why e = let done : Refused why ≡ written_of f es (length old) = sym e ∙ is in (done, rw (← done) refl)
+  pub write_refused : (why : Refusal) → a ≡ Err why → (Err why ≡ written_of f es (length old)) × (old ≡ write_into f es old)
+  write_refused why e = let done : Err why ≡ written_of f es (length old) = sym e ∙ is in (done, rw (← done) refl)
 
-pub ruleset decided = (room_short, room_enough, by_whole, by_fault, write_none, write_many, write_backoff, write_walked, said, said_not)
+pub ruleset decided = (room_short, room_enough, write_none, write_many, write_backoff, write_fault, write_walked, said, said_not)

@@ -13,15 +13,15 @@ use lib.Seq.{get_or-append-add, drop-cons, take-add, drop-drop, take_all, set-ap
 use Rattle.rules.specs.declared.element.Element.{Element}
 use Rattle.rules.specs.declared.fields.Fields.{Fields}
 use Rattle.rules.specs.declared.rules.Progress.{Progress}
-use Rattle.rules.specs.declared.rules.Walked.TheVariants.{Whole}
+use Rattle.std.specs.Prelude.{Result, Ok}
 use Rattle.rules.specs.Rules.{granting, misplaced, walked, advanced, nothing_yet}
 use Rattle.message.specs.declared.reading.Reading.{Reading}
-use Rattle.message.specs.declared.reading.Verdict.TheVariants.{Accepted}
+use Rattle.rules.specs.declared.refusal.Refusal.{Refusal}
 use Rattle.message.specs.Reading.{header_fault, map_of, read_of}
 use Rattle.message.proofs.Ways.{header_good}
 use Rattle.message.proofs.Lists.{length_listed}
 use Rattle.writer.proofs.Stores.{length_header, length_message, Writes, writes}
-use Rattle.message.proofs.Accepted.{Passes, whole_step, accepted}
+use Rattle.message.proofs.Accepted.{Passes, as_whole, whole_step, accepted}
 use Rattle.rules.specs.Sids.{within, sid_allowed}
 use Rattle.rules.specs.Backoffs.{bad_backoffs}
 use Rattle.message.specs.Fields.{fields_of, count_of, reserved_of}
@@ -35,8 +35,6 @@ use Rattle.message.proofs.reading.read.Kinds as read_kinds
 use Rattle.writer.specs.contracts.writing.write as write'
 use Rattle.writer.proofs.writing.write.Reads as write
 use Rattle.writer.proofs.writing.write.Kinds as write_kinds
-use Rattle.writer.specs.declared.writing.Written.{Written}
-use Rattle.writer.specs.declared.writing.Written.TheVariants.{Size}
 use Rattle.message.specs.Lists.{listed}
 use Rattle.message.specs.Element.{word_at, element_of, element_in}
 use Rattle.writer.specs.Writing.{bytes_of, word_of, header_of, elements_of, message_of, written_of, write_into}
@@ -156,7 +154,7 @@ advanced_near p e i h near = go p.closed refl (eqb e.iuc 7)
     go false c true = near
     go false c false = near
 
-pub whole_narrow : (k l i : ℕ) (p : Progress) (es : List Element) → (p.closed ≡ true → p.offset ≤ 4096) → walked i p es ≡ Whole k l → All Narrow es
+pub whole_narrow : (k l i : ℕ) (p : Progress) (es : List Element) → (p.closed ≡ true → p.offset ≤ 4096) → walked i p es ≡ as_whole k l → All Narrow es
 whole_narrow k l i p [] h w = tt
 whole_narrow k l i p (e ∷ es) h w =
     let step = whole_step k l i p e es w in
@@ -204,15 +202,15 @@ module _ (f : Fields) (fits : Fits f) (es : List Element) (few : length es ≤ 2
     «data» = f.«data»;
   }
 
-  header_clean : bad_backoffs f ≡ false → 1 ≤ length es → header_fault (message_of f es) ≡ 0
+  header_clean : bad_backoffs f ≡ false → 1 ≤ length es → header_fault (message_of f es) ≡ Ok tt
   header_clean good some =
       let long = length_message f es [] in
       sym (header_good (message_of f es) (omega arith) (length es) (sym count_back) (λ z. omega arith) few long (rw fields_back good))
 
-  pub reads_back : (k l : ℕ) → bad_backoffs f ≡ false → 1 ≤ length es → walked 0 nothing_yet es ≡ Whole k l → read_of (message_of f es) ≡ Accepted (record { fields = f; n = length es; null = k; length = l })
+  pub reads_back : (k l : ℕ) → bad_backoffs f ≡ false → 1 ≤ length es → walked 0 nothing_yet es ≡ as_whole k l → read_of (message_of f es) ≡ Ok (record { fields = f; n = length es; null = k; length = l })
   unfolding read_of
   reads_back k l good some w =
-      let clean : header_fault (message_of f es) ≡ 0 = header_clean good some in
+      let clean : header_fault (message_of f es) ≡ Ok tt = header_clean good some in
       let same : (map_of (message_of f es)).elements ≡ es = map_back (whole_narrow k l 0 nothing_yet es (λ c. absurd (let z : ◌≡◌ {A = ℕ} 0 1 = cc in omega arith)) w) in
       rw (clean, same, fields_back, count_back, w) refl
 
@@ -286,7 +284,7 @@ module _ (s : List ℕ) (bytes : Bytes s) where
     only_then e = ap (λ (l : List ℕ). get_or l 3 0) (sym (sym writes_again ∙ e)) ∙ get_or-set_same s 3 0 0 (omega arith)
 
 -- the writer takes whatever the reader accepts, where there is room for it
-pub takes_read : (s : List ℕ) (reading : Reading) → read_of s ≡ Accepted reading → (room : ℕ) → length s ≤ room → written_of (fields_of s) (map_of s).elements room ≡ Size (length s)
+pub takes_read : (s : List ℕ) (reading : Reading) → read_of s ≡ Ok reading → (room : ℕ) → length s ≤ room → written_of (fields_of s) (map_of s).elements room ≡ Ok (length s)
 unfolding written_of
 takes_read s reading w room h =
     let a = accepted s reading w in
@@ -295,7 +293,7 @@ takes_read s reading w room h =
     rw (all, ne_eqb (count_of s) 0 (λ z. omega arith), le-ltb 240 (count_of s) a.sound.few, a.sound.backoffs, a.walk, sym a.sound.fits, le-ltb room (length s) h) refl
 
 -- what was written reads back, and how much of the bytes it is
-module _ (f : Fields) (es : List Element) (old new : List ℕ) (size : ℕ) (r : Written) (answered : r ≡ written_of f es (length old)) (content : new ≡ write_into f es old) (is : r ≡ Size size) where
+module _ (f : Fields) (es : List Element) (old new : List ℕ) (size : ℕ) (r : Result ℕ Refusal) (answered : r ≡ written_of f es (length old)) (content : new ≡ write_into f es old) (is : r ≡ Ok size) where
   abbrev pub done : Writes f es (length old) size
   done = writes f es (length old) size (sym answered ∙ is)
 
@@ -305,7 +303,7 @@ module _ (f : Fields) (es : List Element) (old new : List ℕ) (size : ℕ) (r :
       let whole : new ≡ message_of f es ++ drop (length (message_of f es)) old = content ∙ rw (sym answered ∙ is) refl in
       rw whole (take_at (message_of f es) (drop (length (message_of f es)) old) size long)
 
-  pub trip : Fits f → (s : List ℕ) → s ≡ take size new → (read_of s ≡ Accepted (record { fields = f; n = length es; null = done.null; length = done.end })) × (map_of s ≡ record { fields = f; elements = es })
+  pub trip : Fits f → (s : List ℕ) → s ≡ take size new → (read_of s ≡ Ok (record { fields = f; n = length es; null = done.null; length = done.end })) × (map_of s ≡ record { fields = f; elements = es })
   trip fits s e =
       let same : s ≡ message_of f es = e ∙ wrote_message in
       let narrow : All Narrow es = whole_narrow done.null done.end 0 nothing_yet es (λ c. absurd (let z : ◌≡◌ {A = ℕ} 0 1 = cc in omega arith)) done.walk in
@@ -318,12 +316,12 @@ module _ (κs : Lifetimes.Lfts 2) (a : World.ArgsD write'.signature κs) (r : Wo
   es = a.1.0.now
 
   -- what `read` accepted, `write` doesn't refuse where there is room for it
-  pub write_takes_read : (reading : Reading) → v ≡ Accepted reading → a.0 ≡ fields_of b.0.now → es ≡ (map_of b.0.now).elements → length b.0.now ≤ length a.1.1.0.now → r ≡ Size (length b.0.now)
+  pub write_takes_read : (reading : Reading) → v ≡ Ok reading → a.0 ≡ fields_of b.0.now → es ≡ (map_of b.0.now).elements → length b.0.now ≤ length a.1.1.0.now → r ≡ Ok (length b.0.now)
   write_takes_read reading accepts fields elements room = wrote.0 ∙ rw (fields, elements) (takes_read b.0.now reading (sym found ∙ accepts) (length a.1.1.0.now) room)
 
   -- what `write` wrote, `read` reads with the same fields and elements
-  module _ (size : ℕ) (is : r ≡ Size size) where
-    pub read_after_write : Fits a.0 → b.0.now ≡ take size s.1.1.0.now → (k : ℕ) × (l : ℕ) × (v ≡ Accepted (record { fields = a.0; n = length es; null = k; length = l })) × (map_of b.0.now ≡ record { fields = a.0; elements = es })
+  module _ (size : ℕ) (is : r ≡ Ok size) where
+    pub read_after_write : Fits a.0 → b.0.now ≡ take size s.1.1.0.now → (k : ℕ) × (l : ℕ) × (v ≡ Ok (record { fields = a.0; n = length es; null = k; length = l })) × (map_of b.0.now ≡ record { fields = a.0; elements = es })
     read_after_write fits same =
         let old = a.1.1.0.now in
         let new = s.1.1.0.now in
@@ -332,7 +330,7 @@ module _ (κs : Lifetimes.Lfts 2) (a : World.ArgsD write'.signature κs) (r : Wo
         (d.null, d.end, found ∙ both.0, both.1)
 
     -- .. and what `read` read, `write` writes again as the same bytes exactly when reserved was 0
-    module _ (bytes : Bytes b.0.now) (reading : Reading) (accepts : v ≡ Accepted reading) (fields : a.0 ≡ fields_of b.0.now) (elements : es ≡ (map_of b.0.now).elements) where
+    module _ (bytes : Bytes b.0.now) (reading : Reading) (accepts : v ≡ Ok reading) (fields : a.0 ≡ fields_of b.0.now) (elements : es ≡ (map_of b.0.now).elements) where
       again : (take size s.1.1.0.now ≡ written b.0.now bytes (count_of b.0.now) refl (accepted b.0.now reading (sym found ∙ accepts)).sound.fits)
       again = wrote_message a.0 es a.1.1.0.now s.1.1.0.now size r wrote.0 wrote.1 is ∙ rw (fields, elements) refl
 

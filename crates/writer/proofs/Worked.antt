@@ -6,8 +6,10 @@ use Prim.Native.Nat.{ℕ}
 use lib.Dec.{eqb}
 use lib.ListN.{replicate}
 use Rattle.rules.specs.declared.fields.Fields.{Fields}
-use Rattle.message.specs.declared.reading.Verdict.{Verdict}
-use Rattle.message.specs.declared.reading.Verdict.TheVariants.{Accepted, Refused}
+use Rattle.std.specs.Prelude.{Result, Ok, Err}
+use Rattle.message.specs.declared.reading.Reading.{Reading}
+use Rattle.rules.specs.declared.refusal.Refusal.{Refusal}
+use Rattle.rules.specs.Refusals.{number_of}
 use Rattle.message.specs.Lists.{listed}
 use Rattle.rules.specs.Sids.{sid_allowed}
 use Rattle.message.specs.Element.{word_at, element_of}
@@ -37,13 +39,13 @@ fields = record {
   «data» = record { start = 2; end = 6 };
 }
 
-abbrev pub accepts : ℕ → Verdict → Bool
-accepts n (Accepted r) = eqb n r.n
-accepts n (Refused why) = false
+abbrev pub accepts : ℕ → Result Reading Refusal → Bool
+accepts n (Ok r) = eqb n r.n
+accepts n (Err why) = false
 
-abbrev pub refuses : ℕ → Verdict → Bool
-refuses number (Accepted r) = false
-refuses number (Refused why) = eqb number why.number && eqb 0 why.element
+abbrev pub refuses : ℕ → Result Reading Refusal → Bool
+refuses number (Ok r) = false
+refuses number (Err why) = eqb number (number_of why.reason) && eqb 0 why.element
 
 -- a MAP of n elements, all but two of them pendings
 abbrev pub long : ℕ → List ℕ

@@ -1,12 +1,11 @@
 -- Document 01, "The message" and "Refusal numbers": writing.
-use Rattle.std.specs.Prelude.{ℕ, ◌+◌, ◌*◌, ◌/◌, ◌%◌, ◌^◌, cond, ◌||◌, List, [], ◌∷◌, ◌++◌, leb, ltb, eqb, length, drop}
+use Rattle.std.specs.Prelude.{ℕ, ◌+◌, ◌*◌, ◌/◌, ◌%◌, ◌^◌, cond, ◌||◌, List, [], ◌∷◌, ◌++◌, leb, ltb, eqb, length, drop, Result, Ok, Err}
 use Rattle.rules.specs.declared.element.Element.{Element}
 use Rattle.rules.specs.declared.fields.Fields.{Fields}
-use Rattle.rules.specs.declared.rules.Walked.{Walked}
-use Rattle.rules.specs.declared.rules.Walked.TheVariants.{Whole, Fault}
-use Rattle.writer.specs.declared.writing.Written.{Written}
-use Rattle.writer.specs.declared.writing.Written.TheVariants.{Size, Refused}
-use Rattle.rules.specs.Refusals.{Count, Backoff, Room, number_of, refusal}
+use Rattle.rules.specs.declared.rules.Whole.{Whole}
+use Rattle.rules.specs.declared.refusal.Reason.TheVariants.{Count, Backoff, Room}
+use Rattle.rules.specs.declared.refusal.Refusal.{Refusal}
+use Rattle.rules.specs.Refusals.{refusal}
 use Rattle.rules.specs.Backoffs.{bad_backoffs}
 use Rattle.rules.specs.Rules.{walked, nothing_yet}
 
@@ -39,18 +38,18 @@ abbrev pub size_of : List Element → ℕ
 size_of es = 16 + 4 * length es
 
 -- 11 last: "lent bytes too few"
-abbrev pub room_for : ℕ → ℕ → Written
-room_for size room = cond (ltb room size) (Refused (refusal (number_of Room) 0)) (Size size)
+abbrev pub room_for : ℕ → ℕ → Result ℕ Refusal
+room_for size room = cond (ltb room size) (Err (refusal Room 0)) (Ok size)
 
-abbrev pub written_by : Walked → ℕ → ℕ → Written
-written_by (Whole k l) size room = room_for size room
-written_by (Fault why) size room = Refused why
+abbrev pub written_by : Result Whole Refusal → ℕ → ℕ → Result ℕ Refusal
+written_by (Ok w) size room = room_for size room
+written_by (Err why) size room = Err why
 
 -- "The writer skips 1 and 3, gives 11 last"
-unfoldable pub written_of : Fields → List Element → ℕ → Written
+unfoldable pub written_of : Fields → List Element → ℕ → Result ℕ Refusal
 written_of f es room =
-    cond (eqb (length es) 0 || ltb 240 (length es)) (Refused (refusal (number_of Count) 0))
-    (cond (bad_backoffs f) (Refused (refusal (number_of Backoff) 0))
+    cond (eqb (length es) 0 || ltb 240 (length es)) (Err (refusal Count 0))
+    (cond (bad_backoffs f) (Err (refusal Backoff 0))
     (written_by (walked 0 nothing_yet es) (size_of es) room))
 
 -- "touches only the message's own bytes"
@@ -58,9 +57,9 @@ abbrev pub onto : List ℕ → List ℕ → List ℕ
 onto new old = new ++ drop (length new) old
 
 -- "A refusal .. changes .. no lent byte"
-abbrev pub content_of : Written → List ℕ → List ℕ → List ℕ
-content_of (Size size) message old = onto message old
-content_of (Refused why) message old = old
+abbrev pub content_of : Result ℕ Refusal → List ℕ → List ℕ → List ℕ
+content_of (Ok size) message old = onto message old
+content_of (Err why) message old = old
 
 -- the message laid out where there is room for it
 unfoldable pub laid_out : Fields → List Element → List ℕ → List ℕ

@@ -3,4 +3,4 @@
 
 pub mod writing;
 
-pub use writing::{Written, lay_out, write};
+pub use writing::{lay_out, write};

@@ -1,41 +1,30 @@
 // A message written into lent bytes.
 ghost use Rattle.std.specs.Prelude.{◌≡◌, ◌++◌, ◌+◌, ◌*◌, ◌≤◌, length, take, drop};
 ghost use Rattle.rules.specs.Rules.{walked, nothing_yet};
-ghost use Rattle.writer.specs.Writing.{word_of, header_of, elements_of, room_for, written_by, written_of, write_into, laid_out};
+ghost use Rattle.writer.specs.Writing.{word_of, header_of, elements_of, room_for, written_of, write_into, laid_out};
 
-use rules::{Element, Fields, Refusal, Walked, advance, ended, fault, nothing_yet};
+use rules::{Element, Fields, Reason, Refusal, Whole, advance, ended, fault, nothing_yet};
 
-// The bytes of the message, or why it is refused.
-#[derive(Clone, Copy)]
-pub enum Written {
-    Size(u32),
-    Refused(Refusal),
-}
-
-// The reader's own walk, over the elements to be written.
-fn walk(elements: &[Element]) -> Walked
+// The reader's own walk, over the elements to be written: it yields the first fault by break, as
+// document 01 has it ("Forms by place").
+fn walk(elements: &[Element]) -> Result<Whole, Refusal>
     requires { length elements.now ≤ 240 }
     ensures { result ≡ walked 0 nothing_yet elements.now }
 {
     let mut p = nothing_yet();
     let mut i: u32 = 0;
     let mut left = elements;
-    let out = loop {
+    loop {
         let Some((e, after)) = left.split_first() else {
             break ended(p, i);
         };
-        let f = fault(p, *e);
-        if f != 0 {
-            break Walked::Fault(Refusal {
-                number: f,
-                element: i,
-            });
+        if let Err(reason) = fault(p, *e) {
+            break Err(Refusal { reason, element: i });
         }
         p = advance(p, *e, i);
         i += 1;
         left = after;
-    };
-    out
+    }
 }
 
 fn word_of(e: Element) -> u32
@@ -90,64 +79,39 @@ pub fn lay_out(fields: Fields, elements: &[Element], out: &mut [u8])
     put_elements(elements, out);
 }
 
-fn room_for(size: u32, room: usize) -> Written
+fn room_for(size: u32, room: usize) -> Result<u32, Refusal>
     ensures { result ≡ room_for size room }
 {
     if room < (size as usize) {
-        return Written::Refused(Refusal {
-            number: Refusal::ROOM,
-            element: 0,
-        });
+        return Err(Refusal::from(Reason::Room));
     }
-    Written::Size(size)
-}
-
-fn written_by(walked: Walked, size: u32, room: usize) -> Written
-    ensures { result ≡ written_by walked size room }
-{
-    match walked {
-        Walked::Whole { null: _, length: _ } => room_for(size, room),
-        Walked::Fault(refusal) => Written::Refused(refusal),
-    }
+    Ok(size)
 }
 
 // What `write` answers, before a byte is touched.
-fn decide(fields: Fields, elements: &[Element], room: usize) -> Written
+fn decide(fields: Fields, elements: &[Element], room: usize) -> Result<u32, Refusal>
     ensures { result ≡ written_of fields elements.now room }
 {
     let n = elements.len();
     if n == 0 {
-        return Written::Refused(Refusal {
-            number: Refusal::COUNT,
-            element: 0,
-        });
+        return Err(Refusal::from(Reason::Count));
     }
     if Element::MOST < n {
-        return Written::Refused(Refusal {
-            number: Refusal::COUNT,
-            element: 0,
-        });
+        return Err(Refusal::from(Reason::Count));
     }
     if fields.bad_backoffs() {
-        return Written::Refused(Refusal {
-            number: Refusal::BACKOFF,
-            element: 0,
-        });
+        return Err(Refusal::from(Reason::Backoff));
     }
-    let count = n as u32;
-    written_by(walk(elements), 16 + 4 * count, room)
+    walk(elements)?;
+    room_for(16 + 4 * (n as u32), room)
 }
 
-// The message into the lent bytes, or its refusal: 2, 4, the elements', a missing Null, 11.
-pub fn write(fields: Fields, elements: &[Element], out: &mut [u8]) -> Written
+// The message into the lent bytes, and how many of them it takes; or its refusal: 2, 4, the elements',
+// a missing Null, 11.
+pub fn write(fields: Fields, elements: &[Element], out: &mut [u8]) -> Result<u32, Refusal>
     ensures { (result ≡ written_of fields elements.now (length out.old)) × (out.new ≡ write_into fields elements.now out.old) }
 {
-    let answer = decide(fields, elements, out.len());
-    match answer {
-        Written::Size(size) => {
-            lay_out(fields, elements, out);
-            Written::Size(size)
-        }
-        Written::Refused(refusal) => Written::Refused(refusal),
-    }
+    let size = decide(fields, elements, out.len())?;
+    lay_out(fields, elements, out);
+    Ok(size)
 }

@@ -5,10 +5,10 @@ use Rattle.writer.proofs.writing.walk.Goals as goal
 pub loop-e-preserved : goal.loop-e-preserved
 loop-e-preserved c =
     let here = c.in-Some.ensures.cases in
-    record { place = omega (arith, here.1); same = walk_goes_on _ _ _ _ c.loop-e.invariant.same _ _ here.0 _ c.fault-f.ensures c.if-f-ne0.false _ c.advance-p.ensures }
+    record { place = omega (arith, here.1); same = walk_goes_on _ _ _ _ c.loop-e.invariant.same _ _ here.0 _ c.fault.ensures c.in_default-fault.is _ c.advance-p.ensures }
 
 pub returns-in_default : goal.returns-in_default
-returns-in_default c = walk_ends _ _ _ _ c.loop-e.invariant.same _ c.in_default.ensures.cases c.ended-out.ensures
+returns-in_default c = walk_ends _ _ _ _ c.loop-e.invariant.same _ c.in_default.ensures.cases c.ended.ensures
 
-pub returns-then-f-ne0 : goal.returns-then-f-ne0
-returns-then-f-ne0 c = walk_stops _ _ _ _ c.loop-e.invariant.same _ _ c.in-Some.ensures.cases.0 _ c.fault-f.ensures c.if-f-ne0.true
+pub returns-in-Err : goal.returns-in-Err
+returns-in-Err c = walk_stops _ _ _ _ c.loop-e.invariant.same _ _ c.in-Some.ensures.cases.0 _ c.fault.ensures _ c.in-Err.is
