@@ -5,5 +5,5 @@ pub mod record;
 mod request;
 pub mod setup;
 
-pub use record::{Headend, Request, Taken, Taking, with_places};
+pub use record::{Headend, Request, Taking, with_places};
 pub use setup::record_fault;

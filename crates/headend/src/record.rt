@@ -7,7 +7,7 @@ use rules::{Backoff, Refusal};
 use slots::MiniSlot;
 
 // A request: who, for how many mini-slots, and sent in which.
-#[derive(Clone, Copy)]
+#[derive(Clone, Copy, PartialEq, Eq)]
 pub struct Request {
     pub sid: u32,
     pub size: u32,
@@ -29,15 +29,9 @@ pub struct Headend {
 }
 
 #[derive(Clone, Copy)]
-pub enum Taken {
-    Taken,
-    Refused(Refusal),
-}
-
-#[derive(Clone, Copy)]
 pub struct Taking {
     pub headend: Headend,
-    pub answer: Taken,
+    pub answer: Result<(), Refusal>,
 }
 
 impl Request {

@@ -4,9 +4,9 @@ ghost use Rattle.std.specs.List.{list_any};
 ghost use Rattle.slots.specs.Time.{earlier};
 ghost use Rattle.headend.specs.Records.{request_fault, joined, request_of};
 
-use crate::record::{Headend, Request, Taken, Taking, with_places};
+use crate::record::{Headend, Request, Taking, with_places};
 use crate::setup::{outside, record_fault};
-use rules::Refusal;
+use rules::{Reason, Refusal};
 use slots::MiniSlot;
 
 fn any_of(sid: u32, held: &[Request]) -> bool
@@ -21,32 +21,29 @@ fn not_earlier(time: MiniSlot, other: MiniSlot) -> bool
     !time.earlier(other)
 }
 
-fn request_fault(h: Headend, q: Request) -> u32
+fn request_fault(h: Headend, q: Request) -> Result<(), Reason>
     ensures { result ≡ request_fault h q }
 {
-    let number = record_fault(h);
-    if number != 0 {
-        return number;
-    }
+    record_fault(h)?;
     if outside(0x0001, 0x1FFF, q.sid) {
-        return Refusal::SID;
+        return Err(Reason::Sid);
     }
     if outside(1, Headend::LONGEST_GRANT, q.size) {
-        return Refusal::SIZE;
+        return Err(Reason::Size);
     }
     if q.first.earlier(h.ack) {
-        return Refusal::PASSED;
+        return Err(Reason::Passed);
     }
     if not_earlier(q.first, h.next) {
-        return Refusal::UNANNOUNCED;
+        return Err(Reason::Unannounced);
     }
     if any_of(q.sid, h.held_requests()) {
-        return Refusal::HELD;
+        return Err(Reason::Held);
     }
     if Headend::MOST_HELD <= h.held {
-        return Refusal::FULL;
+        return Err(Reason::Full);
     }
-    0
+    Ok(())
 }
 
 fn joined(h: Headend, q: Request) -> Headend
@@ -63,16 +60,15 @@ impl Headend {
         ensures { result ≡ request_of self (record { sid = sid; size = size; first = first }) }
     {
         let q = Request { sid, size, first };
-        let number = request_fault(self, q);
-        if number != 0 {
-            return Taking {
+        match request_fault(self, q) {
+            Ok(()) => Taking {
+                headend: joined(self, q),
+                answer: Ok(()),
+            },
+            Err(reason) => Taking {
                 headend: self,
-                answer: Taken::Refused(Refusal { number, element: 0 }),
-            };
-        }
-        Taking {
-            headend: joined(self, q),
-            answer: Taken::Taken,
+                answer: Err(Refusal::from(reason)),
+            },
         }
     }
 }

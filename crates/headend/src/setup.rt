@@ -5,7 +5,7 @@ ghost use Rattle.rules.specs.Sids.{within, unicast};
 ghost use Rattle.headend.specs.Records.{set_up_of, bad_size, record_fault};
 
 use crate::record::{Headend, Request};
-use rules::{Backoff, Refusal, within};
+use rules::{Backoff, Reason, Refusal, within};
 use slots::MiniSlot;
 
 impl Headend {
@@ -26,10 +26,10 @@ impl Headend {
         ensures { result ≡ set_up_of next channel count ranging «data» short }
     {
         if ranging.bad() {
-            return Err(BAD_BACKOFF);
+            return Err(Refusal::from(Reason::Backoff));
         }
         if data.bad() {
-            return Err(BAD_BACKOFF);
+            return Err(Refusal::from(Reason::Backoff));
         }
         Ok(Headend {
             next,
@@ -44,11 +44,6 @@ impl Headend {
         })
     }
 }
-
-const BAD_BACKOFF: Refusal = Refusal {
-    number: Refusal::BACKOFF,
-    element: 0,
-};
 
 pub(crate) fn outside(low: u32, high: u32, x: u32) -> bool
     ensures { result ≡ not (within low high x) }
@@ -69,25 +64,25 @@ fn any_bad_size(held: &[Request]) -> bool
         .any(|q| outside(1, Headend::LONGEST_GRANT, q.size))
 }
 
-// What is wrong with a record handed in, or 0.
-pub fn record_fault(h: Headend) -> u32
+// What is wrong with a record handed in.
+pub fn record_fault(h: Headend) -> Result<(), Reason>
     ensures { result ≡ record_fault h }
 {
     let held = h.held_requests();
     if h.ranging.bad() {
-        return Refusal::BACKOFF;
+        return Err(Reason::Backoff);
     }
     if h.data.bad() {
-        return Refusal::BACKOFF;
+        return Err(Reason::Backoff);
     }
     if any_bad_sid(held) {
-        return Refusal::SID;
+        return Err(Reason::Sid);
     }
     if Headend::MOST_HELD < h.held {
-        return Refusal::SIZE;
+        return Err(Reason::Size);
     }
     if any_bad_size(held) {
-        return Refusal::SIZE;
+        return Err(Reason::Size);
     }
-    0
+    Ok(())
 }
