@@ -2,25 +2,28 @@
 use mathlib.Core.Path.{◌≡◌, refl, sym, ◌∙◌, ap}
 use mathlib.Core.Bool.{Bool, true, false, ◌||◌}
 use mathlib.Core.List.{List, ◌++◌}
-use Prim.Native.Nat.{ℕ, zero, suc, ◌+◌, ◌-◌, ◌*◌, ◌≤◌}
+use Prim.Native.Nat.{ℕ, zero, suc, ◌+◌, ◌-◌, ◌*◌, ◌≤◌, ◌<◌}
 use native.Mathlib.Omega.{arith}
 use lib.Dec.{ltb, eqb}
 use lib.ListN.{length, take, drop, replicate, length-append, take-append-drop}
 use lib.Seq.{take_at}
 use Rattle.std.proofs.lemmas.List.{drop-replicate}
-use borrow.Author.Tests.{eq-eqb, ne_eqb, ltb-false, eqb-false, le-leb}
+use borrow.Author.Tests.{ltb-false, eqb-false, le-leb, lt-ltb, le-ltb}
 use Rattle.slots.specs.declared.time.MiniSlot.{MiniSlot}
 use Rattle.slots.specs.Time.{ahead, moved_on}
 use Rattle.rules.specs.declared.element.Element.{Element}
 use Rattle.rules.specs.declared.fields.Fields.{Fields}
-use Rattle.message.specs.declared.reading.Verdict.{Verdict}
-use Rattle.message.specs.declared.reading.Verdict.TheVariants as verdict
+use Rattle.std.specs.Prelude.{Result, Ok, Err}
+use Rattle.rules.specs.declared.refusal.Reason.{Reason}
+use Rattle.rules.specs.declared.refusal.Reason.TheVariants.{Room, Ack, Plan, Selfcheck}
+use Rattle.rules.specs.Refusals.{refusal}
 use Rattle.message.specs.declared.reading.Reading.{Reading}
 use Rattle.rules.specs.declared.refusal.Refusal.{Refusal}
 use Rattle.message.specs.Reading.{read_of}
 use Rattle.writer.specs.Writing.{message_of, laid_out}
 use Rattle.writer.proofs.Stores.{length_message}
-use Rattle.message.proofs.Ways.{passed, or_none}
+use Rattle.message.proofs.Ways.{passed, or_none, said, said_not}
+use Rattle.std.specs.Result.{is_err}
 use Rattle.headend.specs.declared.record.Headend.{Headend}
 use Rattle.headend.specs.declared.record.Request.{Request}
 use Rattle.headend.specs.Requests.{spare, held_of}
@@ -28,52 +31,47 @@ use Rattle.headend.specs.Records.{with_places, record_fault}
 use Rattle.headend.proofs.Checks.{handed_on, record_valid}
 use Rattle.headend.proofs.Tables.{length_held}
 use Rattle.issuing.specs.declared.issuing.Issuing.{Issuing}
-use Rattle.issuing.specs.declared.issuing.Issued.TheVariants as issued
 use Rattle.issuing.specs.Plan.{total, elements_of}
 use Rattle.issuing.specs.Issue.{granted_in, pending_in, plan_of, plan_message, bad_ack, bad_plan, refuses, call_fault, issue_fault, places_of, moved_to, issued_from, issue_of, issue_into}
-use Rattle.issuing.specs.Scan.{first_fault, first_held, after_first, message_by, accepted_into}
+use Rattle.issuing.specs.Scan.{first_held, after_first, message_by, accepted_into}
 use Rattle.issuing.proofs.Held.{granted_first, pending_after, total_granted, length_granted}
 use Rattle.issuing.proofs.Planned.{plan_size, plan_length}
 
 pub ack_compared : (old next new a b : ℕ) → a ≡ ahead 32 old next → b ≡ ahead 32 old new → ltb a b ≡ ltb (ahead 32 old next) (ahead 32 old new)
 ack_compared old next new a b p q = rw (p, q) refl
 
-module _ (k : ℕ) (a p r : Bool) where
-  pub fault_record : (k ≡ 0 → ⊥) → k ≡ first_fault k a p r
-  unfolding first_fault
-  fault_record e = rw (ne_eqb k 0 e) refl
+module _ (h : Headend) (ack c budget room : ℕ) (k : Result Unit Reason) (is : k ≡ record_fault h) where
+  pub fault_record : (why : Reason) → k ≡ Err why → Err why ≡ call_fault h ack c budget room
+  unfolding call_fault
+  fault_record why e = rw (sym is ∙ e) refl
 
-  module _ (good : k ≡ 0) where
-    pub fault_ack : a ≡ true → 22 ≡ first_fault k a p r
-    unfolding first_fault
-    fault_ack e = rw (good, e) refl
+  module _ (good : k ≡ Ok tt) where
+    pub fault_ack : bad_ack h ack ≡ true → Err Ack ≡ call_fault h ack c budget room
+    unfolding call_fault
+    fault_ack e = rw (sym is ∙ good, e) refl
 
-    module _ (acks : a ≡ false) where
-      pub fault_plan : p ≡ true → 23 ≡ first_fault k a p r
-      unfolding first_fault
-      fault_plan e = rw (good, acks, e) refl
+    module _ (acks : bad_ack h ack ≡ false) where
+      pub fault_plan : bad_plan c budget ≡ true → Err Plan ≡ call_fault h ack c budget room
+      unfolding call_fault
+      fault_plan e = rw (sym is ∙ good, acks, e) refl
 
-      module _ (plans : p ≡ false) where
-        pub fault_room : r ≡ true → 11 ≡ first_fault k a p r
-        unfolding first_fault
-        fault_room e = rw (good, acks, plans, e) refl
+      module _ (plans : bad_plan c budget ≡ false) where
+        pub fault_room : room < 24 + 4 * h.held → Err Room ≡ call_fault h ack c budget room
+        unfolding call_fault
+        fault_room e = rw (sym is ∙ good, acks, plans, lt-ltb room (24 + 4 * h.held) e) refl
 
-        pub fault_none : r ≡ false → 0 ≡ first_fault k a p r
-        unfolding first_fault
-        fault_none e = rw (good, acks, plans, e) refl
+        pub fault_none : 24 + 4 * h.held ≤ room → Ok tt ≡ call_fault h ack c budget room
+        unfolding call_fault
+        fault_none e = rw (sym is ∙ good, acks, plans, le-ltb room (24 + 4 * h.held) e) refl
 
-pub ruleset fault_ways = (fault_record, fault_ack, fault_plan, fault_room, fault_none)
+pub ruleset fault_ways = (said, said_not, fault_ack, fault_plan, fault_room, fault_none)
 
-pub call_fault_is : (h : Headend) (ack c budget room k : ℕ) (a p : Bool) (n : ℕ) → k ≡ record_fault h → a ≡ bad_ack h ack → p ≡ bad_plan c budget → n ≡ first_fault k a p (ltb room (24 + 4 * h.held)) → n ≡ call_fault h ack c budget room
-unfolding call_fault first_fault
-call_fault_is h ack c budget room k a p n d e f is = rw (← d, ← e, ← f) is
-
-module _ (s : List ℕ) (v : Verdict) (is : v ≡ read_of s) where
-  pub refuses_none : (r : Reading) → v ≡ verdict.Accepted r → false ≡ refuses (read_of s)
-  refuses_none r e = rw (← is, e) refl
-
-  pub refuses_some : (why : Refusal) → v ≡ verdict.Refused why → true ≡ refuses (read_of s)
-  refuses_some why e = rw (← is, e) refl
+pub is_refused : (s : List ℕ) (r : Result Reading Refusal) (b : Bool) → r ≡ read_of s → b ≡ is_err r → b ≡ refuses (read_of s)
+is_refused s r b e h = h ∙ rw e (go (read_of s))
+  where
+    go : (v : Result Reading Refusal) → is_err v ≡ refuses v
+    go (Ok reading) = refl
+    go (Err why) = refl
 
 -- as many as are held
 pub count_held : (h : Headend) (held : List Request) → h.held ≤ 64 → held ≡ held_of h → length held ≡ h.held
@@ -100,7 +98,7 @@ made h f c g es old new most few is e room =
 
 -- what a call without a fault is
 pub record Called (h : Headend) (ack c budget room : ℕ) : Type 0 where
-  pub known : record_fault h ≡ 0
+  pub known : record_fault h ≡ Ok tt
   pub acks : bad_ack h ack ≡ false
   pub plans : bad_plan c budget ≡ false
   pub some : 1 ≤ c
@@ -120,13 +118,13 @@ plan_given c budget e =
     let each = or_none (eqb c 0) (ltb 4096 budget) both.0 in
     (positive c each.0, (ltb-false 4096 budget each.1, ltb-false budget c both.1))
 
-pub called : (h : Headend) (ack c budget room : ℕ) → call_fault h ack c budget room ≡ 0 → Called h ack c budget room
+pub called : (h : Headend) (ack c budget room : ℕ) → call_fault h ack c budget room ≡ Ok tt → Called h ack c budget room
 unfolding call_fault
 called h ack c budget room e =
     let zero = handed_on (record_fault h) _ e in
-    let one = passed (bad_ack h ack) 21 _ zero.1 in
-    let two = passed (bad_plan c budget) 22 _ one.1 in
-    let three = passed (ltb room (24 + 4 * h.held)) 10 0 two.1 in
+    let one = passed (bad_ack h ack) Ack _ zero.1 in
+    let two = passed (bad_plan c budget) Plan _ one.1 in
+    let three = passed (ltb room (24 + 4 * h.held)) Room (Ok tt) two.1 in
     let plan = plan_given c budget two.0 in
     record {
       known = zero.0;
@@ -176,33 +174,28 @@ module _ (own old : List ℕ) (b : Bool) (is : b ≡ refuses (read_of own)) wher
 pub checked_front : (h : Headend) (own : List ℕ) (ack c g : ℕ) (old new : List ℕ) (b : Bool) → take (24 + 4 * h.held) own ≡ message_by h ack c g → (b ≡ refuses (read_of (take (24 + 4 * h.held) own))) × (new ≡ accepted_into (take (24 + 4 * h.held) own) old) → (b ≡ refuses (read_of (message_by h ack c g))) × (new ≡ accepted_into (message_by h ack c g) old)
 checked_front h own ack c g old new b e r = rw e at r
 
-pub answers : (r r' : Headend) (size : ℕ) → r ≡ r' → ◌≡◌ {A = Issuing} (record { headend = r; answer = issued.Size size }) (record { headend = r'; answer = issued.Size size })
-answers r r' size e = λ i. record { headend = e i; answer = issued.Size size }
+pub answers : (r r' : Headend) (size : ℕ) → r ≡ r' → ◌≡◌ {A = Issuing} (record { headend = r; answer = Ok size }) (record { headend = r'; answer = Ok size })
+answers r r' size e = λ i. record { headend = e i; answer = Ok size }
 
 -- what `issue` answers, and what the lent bytes hold then
-module _ (h : Headend) (ack c budget : ℕ) (old : List ℕ) (k : ℕ) (is : k ≡ call_fault h ack c budget (length old)) where
-  pub issue_refused : (r : Issuing) → (k ≡ 0 → ⊥) → r ≡ record { headend = h; answer = issued.Refused (record { number = k; element = 0 }) } → (r ≡ issue_of h ack c budget (length old)) × (old ≡ issue_into h ack c budget old)
+module _ (h : Headend) (ack c budget : ℕ) (old : List ℕ) (k : Result Unit Reason) (is : k ≡ call_fault h ack c budget (length old)) where
+  pub issue_refused : (why : Reason) (r : Issuing) → k ≡ Err why → r ≡ record { headend = h; answer = Err (refusal why 0) } → (r ≡ issue_of h ack c budget (length old)) × (old ≡ issue_into h ack c budget old)
   unfolding issue_of issue_into issue_fault
-  issue_refused r some e =
-      let no : eqb (call_fault h ack c budget (length old)) 0 ≡ false = ne_eqb _ 0 (λ z. some (is ∙ z)) in
-      (rw (no, no, ← is) e, rw (no, no) refl)
+  issue_refused why r f e = (rw (sym is ∙ f) e, rw (sym is ∙ f) refl)
 
-  module _ (good : k ≡ 0) (g t : ℕ) (counts : (g ≡ length (granted_in h c budget)) × (t ≡ total (granted_in h c budget))) (b : Bool) (new : List ℕ) (put : (b ≡ refuses (read_of (message_by h ack c g))) × (new ≡ accepted_into (message_by h ack c g) old)) where
+  module _ (good : k ≡ Ok tt) (g t : ℕ) (counts : (g ≡ length (granted_in h c budget)) × (t ≡ total (granted_in h c budget))) (b : Bool) (new : List ℕ) (put : (b ≡ refuses (read_of (message_by h ack c g))) × (new ≡ accepted_into (message_by h ack c g) old)) where
     few : h.held ≤ 64
     few = (called h ack c budget (length old) (sym is ∙ good)).few
-
-    yes : eqb (call_fault h ack c budget (length old)) 0 ≡ true
-    yes = eq-eqb (call_fault h ack c budget (length old)) 0 (sym is ∙ good)
 
     put' : (b ≡ refuses (read_of (plan_message h ack c budget))) × (new ≡ accepted_into (plan_message h ack c budget) old)
     put' = rw (plan_by_lem h c budget few g t counts ack) at put
 
-    pub issue_selfcheck : (r : Issuing) → b ≡ true → r ≡ record { headend = h; answer = issued.Refused (record { number = 24; element = 0 }) } → (r ≡ issue_of h ack c budget (length old)) × (new ≡ issue_into h ack c budget old)
+    pub issue_selfcheck : (r : Issuing) → b ≡ true → r ≡ record { headend = h; answer = Err (refusal Selfcheck 0) } → (r ≡ issue_of h ack c budget (length old)) × (new ≡ issue_into h ack c budget old)
     unfolding issue_of issue_into issue_fault
-    issue_selfcheck r e f = let it = sym put'.0 ∙ e in (rw (yes, it) f, rw (yes, it) (rw it at put'.1))
+    issue_selfcheck r e f = let it = sym put'.0 ∙ e in (rw (sym is ∙ good, it) f, rw (sym is ∙ good, it) (rw it at put'.1))
 
-    pub issue_done : (r : Issuing) → b ≡ false → r ≡ record { headend = moved_to h ack (c + t) (after_first h g); answer = issued.Size (24 + 4 * h.held) } → (r ≡ issue_of h ack c budget (length old)) × (new ≡ issue_into h ack c budget old)
+    pub issue_done : (r : Issuing) → b ≡ false → r ≡ record { headend = moved_to h ack (c + t) (after_first h g); answer = Ok (24 + 4 * h.held) } → (r ≡ issue_of h ack c budget (length old)) × (new ≡ issue_into h ack c budget old)
     unfolding issue_of issue_into issue_fault
     issue_done r e f =
         let it = sym put'.0 ∙ e in
-        (rw (yes, it, ← issued_by_lem h c budget few g t counts ack) f, rw (yes, it) (rw it at put'.1))
+        (rw (sym is ∙ good, it, ← issued_by_lem h c budget few g t counts ack) f, rw (sym is ∙ good, it) (rw it at put'.1))

@@ -5,13 +5,16 @@ use mathlib.Core.List.{List, [], ◌∷◌, ◌++◌}
 use Prim.Native.Nat.{ℕ, suc, ◌+◌, ◌-◌, ◌≤◌, ◌<◌}
 use native.Mathlib.Omega.{arith}
 use native.Mathlib.Nat.{add-zero}
-use lib.Dec.{leb, ltb, eqb}
+use lib.Dec.{leb, ltb}
 use lib.ListN.{length}
-use borrow.Author.Tests.{le-ltb, lt-leb, eq-eqb, not-false, leb-true, eqb-true}
+use borrow.Author.Tests.{le-ltb, lt-leb, eq-eqb, not-false, leb-true}
 use Rattle.rules.specs.declared.element.Element.{Element}
 use Rattle.rules.specs.declared.rules.Progress.{Progress}
-use Rattle.rules.specs.declared.rules.Walked.TheVariants.{Whole}
-use Rattle.message.specs.declared.reading.Verdict.TheVariants.{Accepted}
+use Rattle.message.proofs.Accepted.{as_whole}
+use Rattle.std.specs.Prelude.{Result, Ok, Err}
+use Rattle.rules.specs.declared.refusal.Reason.{Reason}
+use Rattle.rules.specs.declared.refusal.Reason.TheVariants.{Selfcheck}
+use Rattle.rules.specs.Refusals.{then}
 use Rattle.rules.specs.Sids.{within, unicast, sid_allowed}
 use Rattle.rules.specs.Backoffs.{bad_backoffs}
 use Rattle.rules.specs.Rules.{misordered, misplaced, fault_of, nothing_yet, advanced, ended_at, walked}
@@ -35,7 +38,7 @@ use Rattle.issuing.proofs.Planned.{use_not_7, use_grants, null, plan_size, plan_
 use Rattle.issuing.proofs.Issues.{called, plan_given}
 
 -- an element without a fault is passed
-walk_on : (i : ℕ) (p : Progress) (e : Element) (es : List Element) → 0 ≡ fault_of p e → walked i p (e ∷ es) ≡ walked (i + 1) (advanced p e i) es
+walk_on : (i : ℕ) (p : Progress) (e : Element) (es : List Element) → Ok tt ≡ fault_of p e → walked i p (e ∷ es) ≡ walked (i + 1) (advanced p e i) es
 unfolding walked
 walk_on i p e es z = rw (← z) refl
 
@@ -81,26 +84,26 @@ not_too_long : (g : Bool) (last o : ℕ) → (g ≡ true → o ≤ last + 255) �
 not_too_long true last o h = le-ltb (last + 255) o (h refl)
 not_too_long false last o h = refl
 
-first_clean : 0 ≡ fault_of nothing_yet (record { sid = 0x3FFF; iuc = 1; offset = 0 })
+first_clean : Ok tt ≡ fault_of nothing_yet (record { sid = 0x3FFF; iuc = 1; offset = 0 })
 unfolding fault_of misordered misplaced sid_allowed
 first_clean = refl
 
 module _ (last o : ℕ) (g : Bool) (after : last < o) (short : g ≡ true → o ≤ last + 255) (far : o ≤ 4096) where
-  grant_clean : (sid : ℕ) (b : Bool) → unicast sid ≡ true → 0 ≡ fault_of (opened last g) (record { sid = sid; iuc = cond b 5 6; offset = o })
+  grant_clean : (sid : ℕ) (b : Bool) → unicast sid ≡ true → Ok tt ≡ fault_of (opened last g) (record { sid = sid; iuc = cond b 5 6; offset = o })
   unfolding misordered misplaced sid_allowed
   grant_clean sid true u = no_fault (opened last g) (record { sid = sid; iuc = 5; offset = o }) refl refl (rw u refl) (lt-leb o last after) (le-ltb 4096 o far) (not_too_long g last o short)
   grant_clean sid false u = no_fault (opened last g) (record { sid = sid; iuc = 6; offset = o }) refl refl (rw u refl) (lt-leb o last after) (le-ltb 4096 o far) (not_too_long g last o short)
 
-  null_clean : 0 ≡ fault_of (opened last g) (null o)
+  null_clean : Ok tt ≡ fault_of (opened last g) (null o)
   unfolding misordered misplaced sid_allowed
   null_clean = no_fault (opened last g) (null o) refl refl refl (lt-leb o last after) (le-ltb 4096 o far) (not_too_long g last o short)
 
 module _ (n l : ℕ) where
-  pending_clean : (sid : ℕ) → unicast sid ≡ true → 0 ≡ fault_of (shut n l) (record { sid = sid; iuc = 5; offset = l })
+  pending_clean : (sid : ℕ) → unicast sid ≡ true → Ok tt ≡ fault_of (shut n l) (record { sid = sid; iuc = 5; offset = l })
   unfolding misordered misplaced sid_allowed
   pending_clean sid u = no_fault (shut n l) (record { sid = sid; iuc = 5; offset = l }) refl refl (rw u refl) (rw (eq-eqb l l refl) refl) refl refl
 
-  walk_pendings : (i : ℕ) (qs : List Request) → Sane qs → walked i (shut n l) (pendings l qs) ≡ Whole n l
+  walk_pendings : (i : ℕ) (qs : List Request) → Sane qs → walked i (shut n l) (pendings l qs) ≡ as_whole n l
   unfolding pendings walked ended_at advanced
   walk_pendings i [] s = refl
   walk_pendings i (q ∷ qs) s =
@@ -108,7 +111,7 @@ module _ (n l : ℕ) where
       rw (← pending_clean q.sid one.0.sid) (walk_pendings (i + 1) qs one.1)
 
 module _ (short l : ℕ) (ps : List Request) (sane : Sane ps) (far : l ≤ 4096) where
-  walk_grants : (i o last : ℕ) (g : Bool) (qs : List Request) → Sane qs → last < o → (g ≡ true → o ≤ last + 255) → o + total qs ≡ l → walked i (opened last g) (grants short o qs ++ (null l ∷ pendings l ps)) ≡ Whole (i + length qs) l
+  walk_grants : (i o last : ℕ) (g : Bool) (qs : List Request) → Sane qs → last < o → (g ≡ true → o ≤ last + 255) → o + total qs ≡ l → walked i (opened last g) (grants short o qs ++ (null l ∷ pendings l ps)) ≡ as_whole (i + length qs) l
   unfolding grants total advanced
   walk_grants i o last g [] s a b e =
       let same : l ≡ o = omega arith in
@@ -123,14 +126,14 @@ module _ (short l : ℕ) (ps : List Request) (sane : Sane ps) (far : l ≤ 4096)
       rw more (step ∙ rw (use_not_7 d, use_grants d) (walk_grants (i + 1) (o + q.size) o true qs one.1 (omega (arith, one.0.some)) (λ t. omega (arith, one.0.most)) (omega arith)))
 
 -- the walk passes every element of a plan, and ends with the Null's place and the map length
-pub plan_walked : (short c : ℕ) (gs ps : List Request) → 1 ≤ c → c + total gs ≤ 4096 → Sane gs → Sane ps → walked 0 nothing_yet (elements_of short c gs ps) ≡ Whole (1 + length gs) (c + total gs)
+pub plan_walked : (short c : ℕ) (gs ps : List Request) → 1 ≤ c → c + total gs ≤ 4096 → Sane gs → Sane ps → walked 0 nothing_yet (elements_of short c gs ps) ≡ as_whole (1 + length gs) (c + total gs)
 unfolding elements_of advanced
 plan_walked short c gs ps some far a b =
     walk_on 0 nothing_yet (record { sid = 0x3FFF; iuc = 1; offset = 0 }) (grants short c gs ++ (null (c + total gs) ∷ pendings (c + total gs) ps)) first_clean
     ∙ walk_grants short (c + total gs) ps b far 1 c 0 false gs a (omega arith) (λ t. absurd (let z : ◌≡◌ {A = ℕ} 0 1 = cc in omega arith)) refl
 
 -- a valid headend, and a plan that isn't refused
-module _ (h : Headend) (ack c budget : ℕ) (valid : record_fault h ≡ 0) (plans : bad_plan c budget ≡ false) where
+module _ (h : Headend) (ack c budget : ℕ) (valid : record_fault h ≡ Ok tt) (plans : bad_plan c budget ≡ false) where
   abbrev pub gs : List Request
   gs = granted_in h c budget
 
@@ -158,7 +161,7 @@ module _ (h : Headend) (ack c budget : ℕ) (valid : record_fault h ≡ 0) (plan
   unfolding plan_of
   plan_count = let few = (record_valid h valid).few in omega (arith, plan_size h.short c gs ps, length_granted (budget - c) (held_of h), length_held h few)
 
-  pub walk_accepts : walked 0 nothing_yet (plan_of h ack c budget).elements ≡ Whole (1 + length gs) (c + total gs)
+  pub walk_accepts : walked 0 nothing_yet (plan_of h ack c budget).elements ≡ as_whole (1 + length gs) (c + total gs)
   unfolding plan_of
   walk_accepts = plan_walked h.short c gs ps plan_bounds.0 (omega (arith, plan_bounds.1.0, plan_bounds.1.1)) sane_both.0 sane_both.1
 
@@ -168,7 +171,7 @@ module _ (h : Headend) (ack c budget : ℕ) (valid : record_fault h ≡ 0) (plan
 
   -- the reader accepts the MAP, with the plan's fields and elements
   module _ (fits : Fits (plan_of h ack c budget).fields) where
-    pub reads_plan : read_of (plan_message h ack c budget) ≡ Accepted (record { fields = (plan_of h ack c budget).fields; n = h.held + 2; null = 1 + length gs; length = c + total gs })
+    pub reads_plan : read_of (plan_message h ack c budget) ≡ Ok (record { fields = (plan_of h ack c budget).fields; n = h.held + 2; null = 1 + length gs; length = c + total gs })
     reads_plan =
         let n = plan_count in
         let few = (record_valid h valid).few in
@@ -190,11 +193,10 @@ plan_fits h ack c budget n a = record { start = n; ack = a }
 -- so 24 is never given: what is refused, is refused before the MAP is made
 pub selfcheck_never : (h : Headend) (ack c budget room : ℕ) → h.next.0 < 4294967296 → ack < 4294967296 → issue_fault h ack c budget room ≡ call_fault h ack c budget room
 unfolding issue_fault
-selfcheck_never h ack c budget room n a = go (eqb (call_fault h ack c budget room) 0) refl
+selfcheck_never h ack c budget room n a = go (call_fault h ack c budget room) refl
   where
-    go : (b : Bool) → eqb (call_fault h ack c budget room) 0 ≡ b → cond (not (eqb (call_fault h ack c budget room) 0)) (call_fault h ack c budget room) (cond (refuses (read_of (plan_message h ack c budget))) 24 0) ≡ call_fault h ack c budget room
-    go true p =
-        let none = eqb-true (call_fault h ack c budget room) 0 p in
-        let k = called h ack c budget room none in
-        rw (p, reads_plan h ack c budget k.known k.plans (plan_fits h ack c budget n a)) (sym none)
-    go false p = rw p refl
+    go : (f : Result Unit Reason) → call_fault h ack c budget room ≡ f → then f (cond (refuses (read_of (plan_message h ack c budget))) (Err Selfcheck) (Ok tt)) ≡ f
+    go (Ok u) p =
+        let k = called h ack c budget room p in
+        rw (reads_plan h ack c budget k.known k.plans (plan_fits h ack c budget n a)) refl
+    go (Err why) p = refl

@@ -1,10 +1,12 @@
 -- Document 01, "The headend" and "Refusal numbers": issuing.
-use Rattle.std.specs.Prelude.{ℕ, ◌+◌, ◌-◌, ◌*◌, Bool, true, false, cond, not, ◌||◌, List, ◌++◌, ltb, eqb, length, replicate}
+use Rattle.std.specs.Prelude.{ℕ, ◌+◌, ◌-◌, ◌*◌, Bool, true, false, cond, ◌||◌, List, ◌++◌, ltb, eqb, length, replicate, Result, Ok, Err}
 use Rattle.slots.specs.Time.{ahead, moved_on}
 use Rattle.rules.specs.declared.fields.Fields.{Fields}
-use Rattle.message.specs.declared.reading.Verdict.{Verdict}
-use Rattle.message.specs.declared.reading.Verdict.TheVariants as verdict
-use Rattle.rules.specs.Refusals.{Room, Ack, Plan, Selfcheck, number_of, refusal}
+use Rattle.rules.specs.declared.refusal.Reason.{Reason}
+use Rattle.rules.specs.declared.refusal.Reason.TheVariants.{Room, Ack, Plan, Selfcheck}
+use Rattle.rules.specs.declared.refusal.Refusal.{Refusal}
+use Rattle.rules.specs.Refusals.{refusal, then}
+use Rattle.message.specs.declared.reading.Reading.{Reading}
 use Rattle.message.specs.Map.{Map, map_length}
 use Rattle.message.specs.Reading.{read_of}
 use Rattle.writer.specs.Writing.{message_of, onto}
@@ -13,7 +15,6 @@ use Rattle.headend.specs.declared.record.Request.{Request}
 use Rattle.headend.specs.Requests.{spare, held_of}
 use Rattle.headend.specs.Records.{with_places, record_fault}
 use Rattle.issuing.specs.declared.issuing.Issuing.{Issuing}
-use Rattle.issuing.specs.declared.issuing.Issued.TheVariants as issued
 use Rattle.issuing.specs.Plan.{granted, pending, elements_of}
 
 -- what is granted and what is left pending: the budget includes c
@@ -53,23 +54,23 @@ abbrev pub bad_plan : ℕ → ℕ → Bool
 bad_plan c budget = eqb c 0 || ltb 4096 budget || ltb budget c
 
 -- 24: "the headend's reader refuses its own MAP"
-abbrev pub refuses : Verdict → Bool
-refuses (verdict.Accepted reading) = false
-refuses (verdict.Refused why) = true
+abbrev pub refuses : Result Reading Refusal → Bool
+refuses (Ok reading) = false
+refuses (Err why) = true
 
 -- the record's own; then of "Issue: 22, 23, 11, 24" those before the MAP is made. 11: "lent bytes too few", for a MAP of held + 2 elements
-unfoldable pub call_fault : Headend → ℕ → ℕ → ℕ → ℕ → ℕ
+unfoldable pub call_fault : Headend → ℕ → ℕ → ℕ → ℕ → Result Unit Reason
 call_fault h ack c budget room =
-    cond (not (eqb (record_fault h) 0)) (record_fault h)
-    (cond (bad_ack h ack) (number_of Ack)
-    (cond (bad_plan c budget) (number_of Plan)
-    (cond (ltb room (24 + 4 * h.held)) (number_of Room) 0)))
+    then (record_fault h)
+    (cond (bad_ack h ack) (Err Ack)
+    (cond (bad_plan c budget) (Err Plan)
+    (cond (ltb room (24 + 4 * h.held)) (Err Room) (Ok tt))))
 
 -- .. and 24 last
-unfoldable pub issue_fault : Headend → ℕ → ℕ → ℕ → ℕ → ℕ
+unfoldable pub issue_fault : Headend → ℕ → ℕ → ℕ → ℕ → Result Unit Reason
 issue_fault h ack c budget room =
-    cond (not (eqb (call_fault h ack c budget room) 0)) (call_fault h ack c budget room)
-    (cond (refuses (read_of (plan_message h ack c budget))) (number_of Selfcheck) 0)
+    then (call_fault h ack c budget room)
+    (cond (refuses (read_of (plan_message h ack c budget))) (Err Selfcheck) (Ok tt))
 
 -- 64 places that hold these requests, the others spare
 abbrev pub places_of : List Request → List Request
@@ -84,13 +85,17 @@ unfoldable pub issued_from : Headend → ℕ → ℕ → ℕ → Headend
 issued_from h ack c budget = moved_to h ack (map_length (plan_of h ack c budget).elements) (pending_in h c budget)
 
 -- "answers its byte count"; a refusal "changes no record"
+abbrev pub issue_by : Headend → ℕ → ℕ → ℕ → Result Unit Reason → Issuing
+issue_by h ack c budget (Ok u) = record { headend = issued_from h ack c budget; answer = Ok (24 + 4 * h.held) }
+issue_by h ack c budget (Err why) = record { headend = h; answer = Err (refusal why 0) }
+
 unfoldable pub issue_of : Headend → ℕ → ℕ → ℕ → ℕ → Issuing
-issue_of h ack c budget room =
-    cond (eqb (issue_fault h ack c budget room) 0)
-    (record { headend = issued_from h ack c budget; answer = issued.Size (24 + 4 * h.held) })
-    (record { headend = h; answer = issued.Refused (refusal (issue_fault h ack c budget room) 0) })
+issue_of h ack c budget room = issue_by h ack c budget (issue_fault h ack c budget room)
 
 -- what the lent bytes hold then: the MAP in "only its own" bytes, or what they held
+abbrev pub into_by : List ℕ → List ℕ → Result Unit Reason → List ℕ
+into_by message old (Ok u) = onto message old
+into_by message old (Err why) = old
+
 unfoldable pub issue_into : Headend → ℕ → ℕ → ℕ → List ℕ → List ℕ
-issue_into h ack c budget old =
-    cond (eqb (issue_fault h ack c budget (length old)) 0) (onto (plan_message h ack c budget) old) old
+issue_into h ack c budget old = into_by (plan_message h ack c budget) old (issue_fault h ack c budget (length old))

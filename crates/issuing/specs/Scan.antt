@@ -1,6 +1,5 @@
 -- How the code goes through the held requests; no public promise cites these.
-use Rattle.std.specs.Prelude.{ℕ, Bool, cond, not, List, eqb, take, drop}
-use Rattle.rules.specs.Refusals.{Room, Ack, Plan, number_of}
+use Rattle.std.specs.Prelude.{ℕ, cond, List, take, drop}
 use Rattle.message.specs.Reading.{read_of}
 use Rattle.writer.specs.Writing.{message_of, onto}
 use Rattle.headend.specs.declared.record.Headend.{Headend}
@@ -8,10 +7,6 @@ use Rattle.headend.specs.declared.record.Request.{Request}
 use Rattle.headend.specs.Requests.{held_of}
 use Rattle.issuing.specs.Plan.{elements_of}
 use Rattle.issuing.specs.Issue.{plan_fields, refuses}
-
--- the record's own number; else the first of 22, 23 and 11 that holds
-unfoldable pub first_fault : ℕ → Bool → Bool → Bool → ℕ
-first_fault number ack plan room = cond (not (eqb number 0)) number (cond ack (number_of Ack) (cond plan (number_of Plan) (cond room (number_of Room) 0)))
 
 -- the first g requests held, and the others
 abbrev pub first_held : Headend → ℕ → List Request

@@ -1,27 +1,22 @@
 // A MAP issued.
 ghost use Rattle.std.specs.Prelude.{◌≡◌, ◌+◌, ◌*◌, ◌≤◌, length};
+ghost use Rattle.rules.specs.Refusals.{refusal};
 ghost use Rattle.message.specs.Reading.{read_of};
 ghost use Rattle.issuing.specs.Plan.{total};
 ghost use Rattle.issuing.specs.Issue.{bad_ack, bad_plan, refuses, call_fault, places_of, moved_to, issue_of, issue_into};
-ghost use Rattle.issuing.specs.Scan.{first_held, after_first, first_fault, message_by, accepted_into};
+ghost use Rattle.issuing.specs.Scan.{first_held, after_first, message_by, accepted_into};
 
 use crate::plan::{grants_within, make};
 use headend::{Headend, Request, record_fault, with_places};
-use message::{Verdict, read};
-use rules::Refusal;
+use message::read;
+use rules::{Reason, Refusal};
 use slots::MiniSlot;
 
-// The bytes of the MAP, or why there is none.
-#[derive(Clone, Copy)]
-pub enum Issued {
-    Size(u32),
-    Refused(Refusal),
-}
-
+// The answer is how many bytes the MAP has, or why there is none.
 #[derive(Clone, Copy)]
 pub struct Issuing {
     pub headend: Headend,
-    pub answer: Issued,
+    pub answer: Result<u32, Refusal>,
 }
 
 // New - old exceeds next start - old: plain forward distances, so that old and next start both pass.
@@ -39,44 +34,27 @@ fn bad_plan(c: u32, budget: u32) -> bool
     (c == 0) | (Headend::LONGEST_MAP < budget) | (budget < c)
 }
 
-// The record's own number; else the first of 22, 23 and 11 that holds, or 0.
-fn first_fault(number: u32, ack: bool, plan: bool, room: bool) -> u32
-    ensures { result ≡ first_fault number ack plan room }
-{
-    if number != 0 {
-        return number;
-    }
-    if ack {
-        return Refusal::ACK;
-    }
-    if plan {
-        return Refusal::PLAN;
-    }
-    if room {
-        return Refusal::ROOM;
-    }
-    0
-}
-
-// What is wrong before the MAP is made, or 0.
-fn call_fault(h: Headend, ack: MiniSlot, c: u32, budget: u32, room: usize) -> u32
+// What is wrong before the MAP is made.
+fn call_fault(h: Headend, ack: MiniSlot, c: u32, budget: u32, room: usize) -> Result<(), Reason>
     ensures { result ≡ call_fault h ack.0 c budget room }
 {
-    first_fault(
-        record_fault(h),
-        bad_ack(h, ack),
-        bad_plan(c, budget),
-        room < 24 + 4 * (h.held as usize),
-    )
+    record_fault(h)?;
+    if bad_ack(h, ack) {
+        return Err(Reason::Ack);
+    }
+    if bad_plan(c, budget) {
+        return Err(Reason::Plan);
+    }
+    if room < 24 + 4 * (h.held as usize) {
+        return Err(Reason::Room);
+    }
+    Ok(())
 }
 
 fn refuses(bytes: &[u8]) -> bool
     ensures { result ≡ refuses (read_of bytes.now) }
 {
-    match read(bytes) {
-        Verdict::Accepted(_) => false,
-        Verdict::Refused(_) => true,
-    }
+    read(bytes).is_err()
 }
 
 // These requests, in the first places.
@@ -105,12 +83,12 @@ fn moved_to(h: Headend, ack: MiniSlot, length: u32, g: usize) -> Headend
     )
 }
 
-fn refused(h: Headend, number: u32) -> Issuing
-    ensures { result ≡ record { headend = h; answer = Issued.Refused (record { number = number; element = 0 }) } }
+fn refused(h: Headend, reason: Reason) -> Issuing
+    ensures { result ≡ record { headend = h; answer = Err (refusal reason 0) } }
 {
     Issuing {
         headend: h,
-        answer: Issued::Refused(Refusal { number, element: 0 }),
+        answer: Err(Refusal::from(reason)),
     }
 }
 
@@ -138,24 +116,23 @@ fn put_map(h: Headend, ack: MiniSlot, c: u32, g: usize, out: &mut [u8]) -> bool
 
 fn done(h: Headend, ack: MiniSlot, length: u32, g: usize) -> Issuing
     requires { (g ≤ h.held) × (h.held ≤ 64) }
-    ensures { result ≡ record { headend = moved_to h ack.0 length (after_first h g); answer = Issued.Size (24 + 4 * h.held) } }
+    ensures { result ≡ record { headend = moved_to h ack.0 length (after_first h g); answer = Ok (24 + 4 * h.held) } }
 {
     Issuing {
         headend: moved_to(h, ack, length, g),
-        answer: Issued::Size(24 + 4 * h.held),
+        answer: Ok(24 + 4 * h.held),
     }
 }
 
 pub fn issue(headend: Headend, ack: MiniSlot, c: u32, budget: u32, out: &mut [u8]) -> Issuing
     ensures { (result ≡ issue_of headend ack.0 c budget (length out.old)) × (out.new ≡ issue_into headend ack.0 c budget out.old) }
 {
-    let number = call_fault(headend, ack, c, budget, out.len());
-    if number != 0 {
-        return refused(headend, number);
+    if let Err(reason) = call_fault(headend, ack, c, budget, out.len()) {
+        return refused(headend, reason);
     }
     let grants = grants_within(headend.held_requests(), budget - c);
     if put_map(headend, ack, c, grants.count, out) {
-        return refused(headend, Refusal::SELFCHECK);
+        return refused(headend, Reason::Selfcheck);
     }
     done(headend, ack, c + grants.total, grants.count)
 }

@@ -4,4 +4,4 @@
 pub mod issuing;
 mod plan;
 
-pub use issuing::{Issued, Issuing, issue};
+pub use issuing::{Issuing, issue};
