@@ -1,8 +1,8 @@
 -- What is known of the body that stands next: a MAP's row, or the number of a refusal.
 use mathlib.Core.Path.{◌≡◌, refl, sym, ◌∙◌, ap}
-use mathlib.Core.Bool.{Bool, true, false, cond, not, ◌||◌}
-use mathlib.Core.List.{List, [], ◌∷◌}
-use Prim.Native.Nat.{ℕ, zero, suc, ◌+◌, ◌*◌, ◌≤◌, ◌<◌}
+use mathlib.Core.Bool.{Bool, true, false, cond, ◌||◌}
+use mathlib.Core.List.{List}
+use Prim.Native.Nat.{ℕ, zero, suc, ◌≤◌, ◌<◌}
 use native.Mathlib.Omega.{arith}
 use lib.Dec.{ltb, eqb}
 use lib.ListN.{length, take}
@@ -10,22 +10,20 @@ use lib.Seq.{get_or-take}
 use borrow.Author.Tests.{ltb-false, eqb-false}
 use Rattle.rules.specs.declared.element.Element.{Element}
 use Rattle.rules.specs.declared.fields.Fields.{Fields}
-use Rattle.rules.specs.declared.rules.Progress.{Progress}
-use Rattle.rules.specs.declared.rules.Walked.{Walked}
-use Rattle.rules.specs.declared.rules.Walked.TheVariants.{Whole, Fault}
+use Rattle.rules.specs.declared.refusal.Reason.{Reason}
+use Rattle.rules.specs.declared.refusal.Reason.TheVariants.{Short, Count, Length, Backoff, Use, Sid, Place, Span, Grant, Null, Room, Channel, Description, Stale, Late, Busy, Size, Held, Full, Passed, Unannounced, Ack, Plan, Selfcheck}
+use Rattle.rules.specs.declared.refusal.Refusal.{Refusal}
+use Rattle.rules.specs.Refusals.{number_of}
 use Rattle.message.specs.declared.reading.Reading.{Reading}
-use Rattle.message.specs.declared.reading.Verdict.{Verdict}
-use Rattle.message.specs.declared.reading.Verdict.TheVariants.{Accepted, Refused}
 use Rattle.message.specs.Element.{word_at, element_at}
-use Rattle.rules.specs.Backoffs.{bad_backoffs}
 use Rattle.message.specs.Fields.{fields_of, count_of}
-use Rattle.rules.specs.Rules.{misordered, unknown_use, wrong_sid, misplaced, too_far, grant_too_long, fault_of, nothing_yet, advanced, ended_at, walked}
+use Rattle.rules.specs.Rules.{misordered, nothing_yet, walked}
 use Rattle.message.specs.Lists.{listed}
-use Rattle.message.specs.Reading.{header_fault, map_of, verdict_of, read_of}
+use Rattle.message.specs.Reading.{read_of}
 use Rattle.message.proofs.Ways.{or_none}
-use Rattle.message.proofs.Accepted.{Accept, accepted, whole_step}
+use Rattle.message.proofs.Accepted.{Accept, as_whole, accepted, whole_step}
 use Rattle.report.specs.declared.bodies.Row.{Row}
-use Rattle.std.specs.Prelude.{Ok, Err}
+use Rattle.std.specs.Prelude.{Result, Ok, Err}
 use Rattle.report.specs.Bodies.{Body, size_of, body_by, next_of}
 
 -- what measures at most m on both sides of a test
@@ -33,73 +31,35 @@ pub at_most : {A : Type 0} (f : A → ℕ) (m : ℕ) (b : Bool) (x y : A) → f 
 at_most f m true x y h k = h
 at_most f m false x y h k = k
 
--- numbers of refusals, 0 where there is none
-abbrev fault_in : Walked → ℕ
-fault_in (Whole k l) = 0
-fault_in (Fault why) = why.number
-
-abbrev refusal_in : Verdict → ℕ
-refusal_in (Accepted reading) = 0
-refusal_in (Refused why) = why.number
-
-abbrev pub bad_in : Body → ℕ
-bad_in (Ok row) = 0
-bad_in (Err why) = why
-
-abbrev itself : ℕ → ℕ
-itself n = n
-
-module _ (p : Progress) (e : Element) where
-  fault_most : fault_of p e ≤ 10
-  unfolding fault_of
-  fault_most =
-      at_most itself 10 (unknown_use e) _ _ (omega arith)
-      (at_most itself 10 (misordered p e) _ _ (omega arith)
-      (at_most itself 10 (wrong_sid e) _ _ (omega arith)
-      (at_most itself 10 (misplaced p e) _ _ (omega arith)
-      (at_most itself 10 (too_far p e) _ _ (omega arith)
-      (at_most itself 10 (grant_too_long p e) _ _ (omega arith) (omega arith))))))
-
-walk_most : (i : ℕ) (p : Progress) (es : List Element) → fault_in (walked i p es) ≤ 10
-unfolding walked ended_at
-walk_most i p [] = at_most fault_in 10 p.closed _ _ (omega arith) (omega arith)
-walk_most i p (e ∷ es) = at_most fault_in 10 (eqb (fault_of p e) 0) _ _ (walk_most (i + 1) (advanced p e i) es) (fault_most p e)
-
-module _ (s : List ℕ) where
-  header_most : header_fault s ≤ 10
-  unfolding header_fault
-  header_most =
-      at_most itself 10 (ltb (length s) 16) _ _ (omega arith)
-      (at_most itself 10 (eqb (count_of s) 0 || ltb 240 (count_of s)) _ _ (omega arith)
-      (at_most itself 10 (not (eqb (length s) (16 + 4 * count_of s))) _ _ (omega arith)
-      (at_most itself 10 (bad_backoffs (fields_of s)) _ _ (omega arith) (omega arith))))
-
-  verdict_most : (f : Fields) (n : ℕ) (w : Walked) → fault_in w ≤ 10 → refusal_in (verdict_of f n w) ≤ 10
-  verdict_most f n (Whole k l) h = omega arith
-  verdict_most f n (Fault why) h = h
-
-  read_most : refusal_in (read_of s) ≤ 10
-  unfolding read_of
-  read_most =
-      at_most refusal_in 10 (eqb (header_fault s) 0) _ _
-      (verdict_most (fields_of s) (count_of s) (walked 0 nothing_yet (map_of s).elements) (walk_most 0 nothing_yet (map_of s).elements))
-      header_most
-
-body_most : (v : Verdict) → refusal_in v ≤ 10 → bad_in (body_by v) ≤ 10
-body_most (Accepted reading) h = omega arith
-body_most (Refused why) h = h
-
--- a refusal in the report is at most 10
-pub next_most : (s : List ℕ) → bad_in (next_of s) ≤ 10
-unfolding next_of
-next_most s =
-    at_most bad_in 10 (ltb (length s) 16) _ _ (omega arith)
-    (at_most bad_in 10 (eqb (count_of s) 0 || ltb 240 (count_of s)) _ _ (omega arith)
-    (at_most bad_in 10 (ltb (length s) (size_of (count_of s))) _ _ (omega arith)
-    (body_most (read_of (take (size_of (count_of s)) s)) (read_most (take (size_of (count_of s)) s)))))
+-- a refusal's number has two digits at most
+pub number_short : (why : Reason) → number_of why ≤ 99
+number_short Short = omega arith
+number_short Count = omega arith
+number_short Length = omega arith
+number_short Backoff = omega arith
+number_short Use = omega arith
+number_short Sid = omega arith
+number_short Place = omega arith
+number_short Span = omega arith
+number_short Grant = omega arith
+number_short Null = omega arith
+number_short Room = omega arith
+number_short Channel = omega arith
+number_short Description = omega arith
+number_short Stale = omega arith
+number_short Late = omega arith
+number_short Busy = omega arith
+number_short Size = omega arith
+number_short Held = omega arith
+number_short Full = omega arith
+number_short Passed = omega arith
+number_short Unannounced = omega arith
+number_short Ack = omega arith
+number_short Plan = omega arith
+number_short Selfcheck = omega arith
 
 -- an accepted message has two elements or more: the first is not the Null
-two_from : (el : ℕ → Element) (a b n null : ℕ) → null < n → walked 0 nothing_yet (listed el 0 n) ≡ Whole a b → (el null).iuc ≡ 7 → 2 ≤ n
+two_from : (el : ℕ → Element) (a b n null : ℕ) → null < n → walked 0 nothing_yet (listed el 0 n) ≡ as_whole a b → (el null).iuc ≡ 7 → 2 ≤ n
 unfolding listed misordered
 two_from el a b zero null l w c = absurd (omega arith)
 two_from el a b (suc n) zero l w c =
@@ -119,7 +79,7 @@ pub record Good (s : List ℕ) (row : Row) : Type 0 where
   pub inside : size_of row.n ≤ length s
   pub start : row.start.0 ≡ word_at s 4
 
-not_bad : (b : Bool) (why : ℕ) (x : Body) (row : Row) → cond b (Err why) x ≡ Ok row → (b ≡ false) × (x ≡ Ok row)
+not_bad : (b : Bool) (why : Reason) (x : Body) (row : Row) → cond b (Err why) x ≡ Ok row → (b ≡ false) × (x ≡ Ok row)
 not_bad true why x row e = let z : ◌≡◌ {A = ℕ} 0 1 = cc in absurd (omega arith)
 not_bad false why x row e = (refl, e)
 
@@ -136,7 +96,7 @@ module _ (s : List ℕ) (row : Row) where
   unfolding body
   count_of_body = get_or-take (size_of (count_of s)) s 2 0 (omega arith)
 
-  good_reading : (reading : Reading) → read_of body ≡ Accepted reading → body_by (Accepted reading) ≡ Ok row → size_of (count_of s) ≤ length s → Good s row
+  good_reading : (reading : Reading) → read_of body ≡ Ok reading → body_by (Ok reading) ≡ Ok row → size_of (count_of s) ≤ length s → Good s row
   unfolding fields_of
   good_reading reading is x inside =
       let a = accepted body reading is in
@@ -156,11 +116,11 @@ module _ (s : List ℕ) (row : Row) where
   pub next_good : next_of s ≡ Ok row → Good s row
   unfolding next_of body
   next_good e =
-      let one = not_bad (ltb (length s) 16) 1 _ row e in
-      let two = not_bad (eqb (count_of s) 0 || ltb 240 (count_of s)) 2 _ row one.1 in
-      let three = not_bad (ltb (length s) (size_of (count_of s))) 3 _ row two.1 in
+      let one = not_bad (ltb (length s) 16) Short _ row e in
+      let two = not_bad (eqb (count_of s) 0 || ltb 240 (count_of s)) Count _ row one.1 in
+      let three = not_bad (ltb (length s) (size_of (count_of s))) Length _ row two.1 in
       go (read_of (take (size_of (count_of s)) s)) refl three.1 (ltb-false (length s) (size_of (count_of s)) three.0)
     where
-      go : (v : Verdict) → read_of (take (size_of (count_of s)) s) ≡ v → body_by v ≡ Ok row → size_of (count_of s) ≤ length s → Good s row
-      go (Accepted reading) is x inside = good_reading reading is x inside
-      go (Refused why) is x inside = let z : ◌≡◌ {A = ℕ} 0 1 = cc in absurd (omega arith)
+      go : (v : Result Reading Refusal) → read_of (take (size_of (count_of s)) s) ≡ v → body_by v ≡ Ok row → size_of (count_of s) ≤ length s → Good s row
+      go (Ok reading) is x inside = good_reading reading is x inside
+      go (Err why) is x inside = let z : ◌≡◌ {A = ℕ} 0 1 = cc in absurd (omega arith)

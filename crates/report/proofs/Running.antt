@@ -12,12 +12,15 @@ use lib.ListN.{length, drop, length-append, length-drop}
 use borrow.Author.Tests.{eqb-true, eqb-false, ne_eqb, le-leb, lt-ltb, le-ltb}
 use Rattle.slots.specs.declared.span.Span.{Span}
 use Rattle.slots.specs.declared.span.Span.TheVariants.{Nothing}
-use Rattle.slots.specs.declared.span.Added.{Added}
+use Rattle.std.specs.Prelude.{Option}
+use Rattle.std.specs.Option.{unwrap_or}
 use Rattle.slots.specs.Span.{Described, added, added_all, added_to}
 use Rattle.slots.proofs.Spanning.{◌∈◌, Every, running_is_span, fit_4096}
 use Rattle.report.specs.declared.bodies.Row.{Row}
 use Rattle.std.specs.Prelude.{Result, Ok, Err}
-use Rattle.rules.specs.Refusals.{Room, number_of, refusal}
+use Rattle.rules.specs.declared.refusal.Reason.{Reason}
+use Rattle.rules.specs.declared.refusal.Reason.TheVariants.{Room}
+use Rattle.rules.specs.Refusals.{refusal}
 use Rattle.rules.specs.declared.refusal.Refusal.{Refusal}
 use Rattle.report.specs.declared.lines.Lines.{Lines}
 use Rattle.report.specs.Bodies.{Body, size_of, next_of, and_more, bodies_from, bodies_of, maps_in}
@@ -43,7 +46,7 @@ module _ (i : ℕ) (p : Span) where
       append_assoc (map_line i row) (lines_from (i + 1) bs)
       (span_line (added_all 32 (added 32 p row.start.0 row.length) (maps_in bs)))
 
-  rest_bad : (why : ℕ) → rest_of i p (Err why ∷ []) ≡ refused_line i why ++ span_line p
+  rest_bad : (why : Reason) → rest_of i p (Err why ∷ []) ≡ refused_line i why ++ span_line p
   unfolding lines_from maps_in added_all
   rest_bad why = refl
 
@@ -122,16 +125,16 @@ module _ (text left : List ℕ) (number : ℕ) (span : Span) (before now : Lines
       pub map_less : (left' : List ℕ) → left' ≡ rest → length left' < length left
       map_less left' e = rw e (omega (arith, length-drop (size_of row.n) left, more))
 
-      pub map_next : (left' : List ℕ) → left' ≡ rest → (after : Lines) → Put (map_line number row) now after → (a : Added) → a ≡ added_to 32 span row.start.0 row.length → Going text left' (number + 1) a.span before after
+      pub map_next : (left' : List ℕ) → left' ≡ rest → (after : Lines) → Put (map_line number row) now after → (a : Option Span) → a ≡ added_to 32 span row.start.0 row.length → (span' : Span) → span' ≡ unwrap_or a span → Going text left' (number + 1) span' before after
       unfolding wider
-      map_next left' same after p a e =
-          let taken : a.span ≡ wider = rw (e, le-leb row.length 4096 good.short) refl in
+      map_next left' same after p a e span' got =
+          let taken : span' ≡ wider = got ∙ rw (e, le-leb row.length 4096 good.short) refl in
           record {
             few = rw same (omega (arith, g.few, good.inside, length-drop (size_of row.n) left));
             fill = rw (same, taken) (fill_put text (map_line number row) (rest_of (number + 1) wider (bodies_of rest)) before now mapped after p);
           }
 
-    module _ (b : Body) (read : b ≡ next_of left) (why : ℕ) (is : b ≡ Err why) where
+    module _ (b : Body) (read : b ≡ next_of left) (why : Reason) (is : b ≡ Err why) where
       refused : Filling text (refused_line number why ++ span_line span) before now
       refused = rw (← rest_bad number span why) (rw (← read, is) at unrolled)
 
@@ -156,9 +159,9 @@ module _ (text : List ℕ) (span : Span) (before now : Lines) (f : Filling text 
 
 -- the ways through the whole
 module _ (s o : List ℕ) where
-  pub report_small : length o < enough (length s) → (◌≡◌ {A = Result ℕ Refusal} (Err (refusal (number_of Room) 0)) (reported_of s (length o))) × (o ≡ report_into s o)
+  pub report_small : (r : Refusal) → length o < enough (length s) → r ≡ refusal Room 0 → (◌≡◌ {A = Result ℕ Refusal} (Err r) (reported_of s (length o))) × (o ≡ report_into s o)
   unfolding reported_of report_into
-  report_small h = rw (lt-ltb (length o) (enough (length s)) h) (refl, refl)
+  report_small r h e = rw (lt-ltb (length o) (enough (length s)) h, e) (refl, refl)
 
   module _ (fits : enough (length s) ≤ length o) (l m : Lines) (out : l.out.now ≡ o) (empty : l.used ≡ 0) where
     told : Put (report_of s) l m → (◌≡◌ {A = Result ℕ Refusal} (Ok m.used) (reported_of s (length o))) × (m.out.now ≡ report_into s o)
@@ -182,7 +185,7 @@ unfolding reported_of report_into
 report_inside s o r n out is told holds = go (ltb (length o) (enough (length s))) refl
   where
     go : (b : Bool) → ltb (length o) (enough (length s)) ≡ b → n ≤ length out
-    go true e = let z : ◌≡◌ {A = Result ℕ Refusal} (Err (refusal (number_of Room) 0)) (Ok n) = rw e at (sym is ∙ told) in let y : ◌≡◌ {A = ℕ} 0 1 = cc in absurd (omega arith)
+    go true e = let z : ◌≡◌ {A = Result ℕ Refusal} (Err (refusal Room 0)) (Ok n) = rw e at (sym is ∙ told) in let y : ◌≡◌ {A = ℕ} 0 1 = cc in absurd (omega arith)
     go false e =
         let z : ◌≡◌ {A = Result ℕ Refusal} (Ok (length (report_of s))) (Ok n) = rw e at (sym is ∙ told) in
         let sized : length (report_of s) ≡ n = cc in

@@ -20,7 +20,9 @@ use Rattle.report.specs.Decimal.{decimal_of}
 use Rattle.report.specs.Text.{field_of, fields_of, line_of, map_line, refused_line, span_line, lines_from, text_of}
 use Rattle.report.specs.Report.{enough, report_of, refused_input}
 use Rattle.report.proofs.Decimals.{decimal_short}
-use Rattle.report.proofs.Next.{at_most, next_most, Good, next_good}
+use Rattle.rules.specs.declared.refusal.Reason.{Reason}
+use Rattle.rules.specs.Refusals.{number_of}
+use Rattle.report.proofs.Next.{at_most, number_short, Good, next_good}
 
 -- bytes are below 256
 abbrev pub Bytes : List ℕ → Type 0
@@ -86,13 +88,13 @@ map_short s row i bytes g h =
     )
 
 -- `refused`, at most 4 digits of its number, a refusal: 7 + 2 + 4 + 2 + 1
-refused_short : (i why : ℕ) → i < 10000 → why ≤ 10 → length (refused_line i why) ≤ 16
-refused_short i why h k =
+refused_short : (i : ℕ) (why : Reason) → i < 10000 → length (refused_line i why) ≤ 16
+refused_short i why h =
     omega (
       arith,
-      line_long (114 ∷ 101 ∷ 102 ∷ 117 ∷ 115 ∷ 101 ∷ 100 ∷ []) (i ∷ why ∷ []),
+      line_long (114 ∷ 101 ∷ 102 ∷ 117 ∷ 115 ∷ 101 ∷ 100 ∷ []) (i ∷ number_of why ∷ []),
       decimal_short i 4 (omega arith) (omega arith),
-      decimal_short why 2 (omega arith) (omega arith),
+      decimal_short (number_of why) 2 (omega arith) (omega (arith, number_short why)),
     )
 
 -- each MAP takes 24 bytes or more
@@ -118,7 +120,7 @@ lines_short (suc k) i s bytes h =
           g.some,
           g.inside,
         )
-    go (Err why) e more = omega (arith, refused_short i why (omega arith) (rw e at (next_most s)))
+    go (Err why) e more = omega (arith, refused_short i why (omega arith))
 
 pub text_short : (s : List ℕ) → Bytes s → length s ≤ 65536 → length (text_of s) ≤ enough (length s)
 unfolding text_of

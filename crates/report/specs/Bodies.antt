@@ -1,32 +1,33 @@
 -- Document 01, "The report": "at most 65,536 bytes of MAP bodies back to back".
 use Rattle.std.specs.Prelude.{ℕ, zero, suc, ◌+◌, ◌*◌, cond, ◌||◌, List, [], ◌∷◌, ltb, eqb, length, take, drop, Result, Ok, Err}
 use Rattle.slots.specs.Span.{Described}
-use Rattle.message.specs.declared.reading.Verdict.{Verdict}
-use Rattle.message.specs.declared.reading.Verdict.TheVariants.{Accepted, Refused}
-use Rattle.rules.specs.Refusals.{Short, Count, Length, number_of}
+use Rattle.message.specs.declared.reading.Reading.{Reading}
+use Rattle.rules.specs.declared.refusal.Reason.{Reason}
+use Rattle.rules.specs.declared.refusal.Reason.TheVariants.{Short, Count, Length}
+use Rattle.rules.specs.declared.refusal.Refusal.{Refusal}
 use Rattle.message.specs.Fields.{count_of}
 use Rattle.message.specs.Reading.{read_of}
 use Rattle.report.specs.declared.bodies.Row.{Row}
 
--- a MAP, or the number of its refusal
+-- a MAP, or why it is refused
 abbrev pub Body : Type 0
-Body = Result Row ℕ
+Body = Result Row Reason
 
 -- "Each body takes 16 + 4n bytes"
 abbrev pub size_of : ℕ → ℕ
 size_of n = 16 + 4 * n
 
--- the message's own answer: start, map length and n, or the refusal number
-abbrev pub body_by : Verdict → Body
-body_by (Accepted reading) = Ok (record { start = reading.fields.start; length = reading.length; n = reading.n })
-body_by (Refused why) = Err why.number
+-- the message's own answer: start, map length and n, or why it is refused
+abbrev pub body_by : Result Reading Refusal → Body
+body_by (Ok reading) = Ok (record { start = reading.fields.start; length = reading.length; n = reading.n })
+body_by (Err why) = Err why.reason
 
 -- "under 16 left is 1"; n 0 or over 240 is 2; "fewer than 16 + 4n left is 3"; then the message's own
 unfoldable pub next_of : List ℕ → Body
 next_of s =
-    cond (ltb (length s) 16) (Err (number_of Short))
-    (cond (eqb (count_of s) 0 || ltb 240 (count_of s)) (Err (number_of Count))
-    (cond (ltb (length s) (size_of (count_of s))) (Err (number_of Length))
+    cond (ltb (length s) 16) (Err Short)
+    (cond (eqb (count_of s) 0 || ltb 240 (count_of s)) (Err Count)
+    (cond (ltb (length s) (size_of (count_of s))) (Err Length)
     (body_by (read_of (take (size_of (count_of s)) s)))))
 
 -- a MAP, and what follows it; "The first bad one .. ends reading"

@@ -1,6 +1,7 @@
 -- Document 01, "The report": all of it, and where it goes.
 use Rattle.std.specs.Prelude.{ℕ, ◌+◌, ◌*◌, ◌/◌, min, cond, List, [], ◌∷◌, ltb, length, Result, Ok, Err}
-use Rattle.rules.specs.Refusals.{Room, number_of, refusal}
+use Rattle.rules.specs.declared.refusal.Reason.TheVariants.{Room}
+use Rattle.rules.specs.Refusals.{refusal}
 use Rattle.rules.specs.declared.refusal.Refusal.{Refusal}
 use Rattle.report.specs.Text.{text_of, onto}
 
@@ -18,7 +19,7 @@ enough n = 43 + 35 * (min 65536 n / 24)
 
 -- 11: "lent bytes too few"
 unfoldable pub reported_of : List ℕ → ℕ → Result ℕ Refusal
-reported_of s room = cond (ltb room (enough (length s))) (Err (refusal (number_of Room) 0)) (Ok (length (report_of s)))
+reported_of s room = cond (ltb room (enough (length s))) (Err (refusal Room 0)) (Ok (length (report_of s)))
 
 -- "A refusal .. changes .. no lent byte"
 unfoldable pub report_into : List ℕ → List ℕ → List ℕ

@@ -3,6 +3,8 @@ use Rattle.std.specs.Prelude.{ℕ, ◌+◌, List, [], ◌∷◌, ◌++◌, lengt
 use Rattle.slots.specs.declared.span.Span.{Span}
 use Rattle.slots.specs.declared.span.Span.TheVariants.{Nothing, Lost, Over}
 use Rattle.slots.specs.Time.{moved_on}
+use Rattle.rules.specs.declared.refusal.Reason.{Reason}
+use Rattle.rules.specs.Refusals.{number_of}
 use Rattle.slots.specs.Span.{span_of}
 use Rattle.report.specs.declared.bodies.Row.{Row}
 use Rattle.report.specs.Bodies.{Body, bodies_of, maps_in}
@@ -27,10 +29,10 @@ map_line i row =
     line_of (109 ∷ 97 ∷ 112 ∷ []) (i ∷ row.start.0 ∷ moved_on 32 row.start.0 row.length ∷ row.n ∷ [])
 
 -- "`refused`, its number from 0, the refusal number"
-abbrev pub refused_line : ℕ → ℕ → List ℕ
+abbrev pub refused_line : ℕ → Reason → List ℕ
 refused_line i why =
     -- refused
-    line_of (114 ∷ 101 ∷ 102 ∷ 117 ∷ 115 ∷ 101 ∷ 100 ∷ []) (i ∷ why ∷ [])
+    line_of (114 ∷ 101 ∷ 102 ∷ 117 ∷ 115 ∷ 101 ∷ 100 ∷ []) (i ∷ number_of why ∷ [])
 
 -- span none, and a newline
 abbrev pub span_none : List ℕ

@@ -4,6 +4,7 @@ ghost use Rattle.report.specs.Text.{field_of, fields_of, line_of, map_line, refu
 ghost use Rattle.report.specs.Scan.{HasRoom, Put};
 
 use crate::bodies::Row;
+use rules::Reason;
 use slots::Span;
 
 // The lent bytes, and how many of them the lines so far take.
@@ -76,11 +77,11 @@ impl<'a> Lines<'a> {
         self.line(b"map", &numbers);
     }
 
-    pub(crate) fn refused(&mut self, number: u32, why: u32)
+    pub(crate) fn refused(&mut self, number: u32, why: Reason)
         requires { HasRoom self.old (refused_line number why) }
         ensures { Put (refused_line number why) self.old self.new }
     {
-        self.line(b"refused", &[u64::from(number), u64::from(why)]);
+        self.line(b"refused", &[u64::from(number), u64::from(why.number())]);
     }
 
     pub(crate) fn span(&mut self, span: Span)

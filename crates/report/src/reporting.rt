@@ -7,7 +7,7 @@ ghost use Rattle.report.specs.Scan.{HasRoom, Put};
 
 use crate::bodies::next_body;
 use crate::lines::Lines;
-use rules::Refusal;
+use rules::{Reason, Refusal};
 use slots::Span;
 
 pub const LONGEST_INPUT: usize = 65536;
@@ -35,7 +35,7 @@ fn put_all(input: &[u8], lines: &mut Lines)
         match next_body(left) {
             Ok(row) => {
                 lines.map(number, row);
-                span = span.add(row.start, row.length).span;
+                span = span.add(row.start, row.length).unwrap_or(span);
                 number += 1;
                 left = &left[16 + 4 * row.n as usize..];
             }
@@ -54,10 +54,7 @@ pub fn report(input: &[u8], out: &mut [u8]) -> Result<usize, Refusal>
     ensures { (result ≡ reported_of input.now (length out.old)) × (out.new ≡ report_into input.now out.old) }
 {
     if out.len() < enough(input.len()) {
-        return Err(Refusal {
-            number: Refusal::ROOM,
-            element: 0,
-        });
+        return Err(Refusal::from(Reason::Room));
     }
     let mut lines = Lines::new(out);
     if LONGEST_INPUT < input.len() {

@@ -25,7 +25,7 @@ pub loop-left-smaller : goal.loop-left-smaller
 loop-left-smaller c = map_less _ _ _ _ _ _ c.loop-left.invariant _ c.is_empty.ensures c.loop-left-test.true _ c.next_body.ensures _ c.in-Ok.is _ (part_rest c.loop-left.left.now (size_of c.in-Ok.row.n))
 
 pub loop-left-preserved : goal.loop-left-preserved
-loop-left-preserved c = map_next _ _ _ _ _ _ c.loop-left.invariant _ c.is_empty.ensures c.loop-left-test.true _ c.next_body.ensures _ c.in-Ok.is _ (part_rest c.loop-left.left.now (size_of c.in-Ok.row.n)) _ c.map.ensures _ c.add-span.ensures
+loop-left-preserved c = map_next _ _ _ _ _ _ c.loop-left.invariant _ c.is_empty.ensures c.loop-left-test.true _ c.next_body.ensures _ c.in-Ok.is _ (part_rest c.loop-left.left.now (size_of c.in-Ok.row.n)) _ c.map.ensures _ c.add.ensures _ c.unwrap_or-span.ensures
 
 pub refused-requires : goal.refused-requires
 refused-requires c = bad_room _ _ _ _ _ _ c.loop-left.invariant _ c.is_empty.ensures c.loop-left-test.true _ c.next_body.ensures _ c.in-Err.is
