@@ -8,6 +8,7 @@ use native.Mathlib.Omega.{arith}
 use lib.Dec.{leb, ltb, eqb}
 use lib.ListN.{length, length-append}
 use borrow.Author.Tests.{lt-ltb, le-ltb, le-leb, lt-leb, eq-eqb, ne_eqb, not-true, not-false, eqb-true, ltb-true, ltb-false}
+use Rattle.std.specs.List.{list_any, range_with_len}
 use Rattle.slots.specs.declared.time.MiniSlot.{MiniSlot}
 use Rattle.slots.specs.Time.{moved_on}
 use Rattle.rules.specs.declared.element.Element.{Element}
@@ -150,27 +151,16 @@ pub place_inside : (length step left : ℕ) → left < length / step → left * 
 place_inside length step left h =
     let m : left * step ≤ length / step * step = mul-le-mul_right step (omega arith) in omega (arith, div-mul-le_self length step)
 
--- whether there is a pending among the elements from number i on
-unfoldable pub pending_from : (ℕ → Element) → ℕ → ℕ → ℕ → Bool
-pending_from el n σ i = not (is_empty (keep (λ e. grants σ e.sid e.iuc) (listed el i (n - i))))
-
-module _ (el : ℕ → Element) (n σ : ℕ) (whole : Bool) (i : ℕ) where
-  pub pending_end : pending_from el n σ i ≡ whole → n ≤ i → false ≡ whole
-  unfolding listed pending_from
-  pending_end left h = let none : n - i ≡ 0 = omega arith in rw none at left
-
-  module _ (e : Element) (b : Bool) (said : b ≡ grants σ e.sid e.iuc) (is : e ≡ el i) (more : i < n) (left : pending_from el n σ i ≡ whole) where
-    pub pending_found : b ≡ true → true ≡ whole
-    unfolding listed pending_from
-    pending_found t =
-        let one : n - i ≡ suc (n - (i + 1)) = omega arith in
-        let g : grants σ (el i).sid (el i).iuc ≡ true = rw (← is) (sym said ∙ t) in rw (one, g) at left
-
-    pub pending_next : b ≡ false → pending_from el n σ (i + 1) ≡ whole
-    unfolding listed pending_from
-    pending_next f =
-        let one : n - i ≡ suc (n - (i + 1)) = omega arith in
-        let g : grants σ (el i).sid (el i).iuc ≡ false = rw (← is) (sym said ∙ f) in rw (one, g) at left
+-- whether there is one among count elements from number i on
+any_kept : (g : Element → Bool) (el : ℕ → Element) (i count : ℕ) → list_any (λ j. g (el j)) (range_with_len i count) ≡ not (is_empty (keep g (listed el i count)))
+unfolding listed
+any_kept g el i zero = refl
+any_kept g el i (suc count) = go (g (el i)) (any_kept g el (i + 1) count)
+  where
+    go : (b : Bool) → list_any (λ j. g (el j)) (range_with_len (i + 1) count) ≡ not (is_empty (keep g (listed el (i + 1) count))) →
+        (b || list_any (λ j. g (el j)) (range_with_len (i + 1) count)) ≡ not (is_empty (cond b (el i ∷ keep g (listed el (i + 1) count)) (keep g (listed el (i + 1) count))))
+    go true more = refl
+    go false more = more
 
 module _ (s : List ℕ) (reading : Reading) (ok : read_of s ≡ Accepted reading) where
   pub null_before : reading.null < reading.n
@@ -277,11 +267,10 @@ module _ (s : List ℕ) (reading : Reading) (ok : read_of s ≡ Accepted reading
           let none : ((element_at s (i + 1)).offset - e.offset) / step ≡ 0 = rw z (div-zero ((element_at s (i + 1)).offset - e.offset)) in
           pass_next (element_at s (i + 1)) refl left' (rw none (so ∙ sym (sub-zero left))) (omega (arith, none))
 
-  -- pendings
-  module _ (σ : ℕ) where
-    pub pending_begins : (i : ℕ) → i ≡ reading.null + 1 → pending_from (element_at s) reading.n σ i ≡ not (is_empty (pendings_to σ (map_of s).elements))
-    unfolding pendings_to pending_from
-    pending_begins i h = rw (h, (accepted s reading ok).elements, after_null_lem (element_at s) reading.n reading.null reading.length (accepted s reading ok).frame) refl
+  -- whether there is a pending
+  pub pending_any : (σ : ℕ) → list_any (λ i. grants σ (element_at s i).sid (element_at s i).iuc) (range_with_len (reading.null + 1) (reading.n - (reading.null + 1))) ≡ not (is_empty (pendings_to σ (map_of s).elements))
+  unfolding pendings_to
+  pending_any σ = any_kept (λ e. grants σ e.sid e.iuc) (element_at s) (reading.null + 1) (reading.n - (reading.null + 1)) ∙ rw ((accepted s reading ok).elements, after_null_lem (element_at s) reading.n reading.null reading.length (accepted s reading ok).frame) refl
 
 module _ (i : ℕ) (found found' : Found) (h : found.bursts ≤ i) where
   pub find_few : (start σ r : ℕ) (k : Interval) (then : Found) → found' ≡ then → then ≡ found_in start σ r found (k ∷ []) → found'.bursts ≤ i + 1

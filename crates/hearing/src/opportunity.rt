@@ -65,19 +65,14 @@ pub(crate) fn find(bytes: &[u8], reading: Reading, sid: u32, r: u32) -> Found
         bursts: 0,
         own: Sent::Nothing,
     };
-    let mut i: u32 = 0;
-    let out = loop {
-        if reading.null <= i {
-            break found;
-        }
+    for i in 0..reading.null {
         let e = element_at(bytes, i as usize);
         if e.sid == sid {
             let next = element_at(bytes, (i + 1) as usize);
             found = noted(found, e, next.offset - e.offset, start, r);
         }
-        i += 1;
-    };
-    out
+    }
+    found
 }
 
 fn granted_to(e: Element, sid: u32) -> bool
@@ -91,17 +86,7 @@ fn pending(bytes: &[u8], reading: Reading, sid: u32) -> bool
     requires { read_of bytes.now ≡ Accepted reading }
     ensures { result ≡ not (is_empty (pendings_to sid (map_of bytes.now).elements)) }
 {
-    let mut i: u32 = reading.null + 1;
-    let out = loop {
-        if reading.n <= i {
-            break false;
-        }
-        if granted_to(element_at(bytes, i as usize), sid) {
-            break true;
-        }
-        i += 1;
-    };
-    out
+    (reading.null + 1..reading.n).any(|i| granted_to(element_at(bytes, i as usize), sid))
 }
 
 // "Waiting with a pending": only a station that waits asks for one.
@@ -162,7 +147,7 @@ pub(crate) fn pass(
     reading: Reading,
     r: u32,
     exponent: u32,
-    left: u32,
+    mut left: u32,
     retries: u32,
     size: u32,
 ) -> Phase
@@ -171,24 +156,14 @@ pub(crate) fn pass(
 {
     let fields = reading.fields;
     let start = fields.start;
-    let mut left = left;
-    let mut i: u32 = 0;
-    let out = loop {
-        if reading.null <= i {
-            break Phase::Deferring {
-                exponent,
-                left,
-                retries,
-                size,
-            };
-        }
+    for i in 0..reading.null {
         let e = element_at(bytes, i as usize);
         let step = step_of(e, r);
         if step != 0 {
             let next = element_at(bytes, (i + 1) as usize);
             let count = (next.offset - e.offset) / step;
             if left < count {
-                break sent_at(
+                return sent_at(
                     exponent,
                     retries,
                     start.moved_on(e.offset + left * step),
@@ -197,7 +172,11 @@ pub(crate) fn pass(
             }
             left -= count;
         }
-        i += 1;
-    };
-    out
+    }
+    Phase::Deferring {
+        exponent,
+        left,
+        retries,
+        size,
+    }
 }

@@ -10,9 +10,6 @@ use Rattle.hearing.proofs.opportunity.find.Given as goal
 
 abbrev pub invariant-loop-i : goal.invariant-loop-i
 invariant-loop-i l =
-    (l.reading.null < 240) × (l.i ≤ l.reading.null) × (l.found.bursts ≤ l.i)
-    × (found_in l.reading.fields.start.0 l.sid l.r l.found (intervals (listed (element_at l.bytes) l.i (l.reading.n - l.i)))
-    ≡ found_in l.reading.fields.start.0 l.sid l.r (record { bursts = 0; own = Nothing }) (intervals (map_of l.bytes).elements))
-
-abbrev pub decreases-loop-i : goal.decreases-loop-i
-decreases-loop-i l = l.reading.null - l.i
+    (l.fn.reading.null < 240) × (l.i ≤ l.fn.reading.null) × (l.found.bursts ≤ l.i)
+    × (found_in l.fn.reading.fields.start.0 l.sid l.r l.found (intervals (listed (element_at l.bytes) l.i (l.fn.reading.n - l.i)))
+    ≡ found_in l.fn.reading.fields.start.0 l.sid l.r (record { bursts = 0; own = Nothing }) (intervals (map_of l.bytes).elements))

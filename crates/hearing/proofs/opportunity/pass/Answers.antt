@@ -18,8 +18,8 @@ overflow_add-e c = record { fits = search place_after_fits }
 pub loop-i-preserved : goal.loop-i-preserved
 loop-i-preserved c = (search rules, search rules, elim c.if-step-ne0.branch [ then-step-ne0+else-left-count w ↦ search pass_next | else-step-ne0 w ↦ search pass_none ])
 
-pub returns-then-reading-i : goal.returns-then-reading-i
-returns-then-reading-i c = search pass_end
+pub returns : goal.returns
+returns c = search pass_end
 
 pub returns-then-left-count : goal.returns-then-left-count
 returns-then-left-count c = search pass_sends

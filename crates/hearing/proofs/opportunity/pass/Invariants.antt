@@ -12,9 +12,6 @@ use Rattle.hearing.proofs.opportunity.pass.Given as goal
 
 abbrev pub invariant-loop-i : goal.invariant-loop-i
 invariant-loop-i l =
-    (l.reading.null < 240) × (l.i ≤ l.reading.null)
-    × (passing (map (moved_on 32 l.start.0) (gather (contention_in l.r) (intervals (listed (element_at l.bytes) l.i (l.reading.n - l.i))))) l.exponent l.left l.retries l.size
+    (l.fn.reading.null < 240) × (l.i ≤ l.fn.reading.null)
+    × (passing (map (moved_on 32 l.start.0) (gather (contention_in l.r) (intervals (listed (element_at l.bytes) l.i (l.fn.reading.n - l.i))))) l.exponent l.left l.retries l.size
     ≡ passing (contention l.r (map_of l.bytes)) l.exponent l.fn.left l.retries l.size)
-
-abbrev pub decreases-loop-i : goal.decreases-loop-i
-decreases-loop-i l = l.reading.null - l.i

@@ -1,18 +1,20 @@
-use Rattle.hearing.proofs.Scanning.{few, null_next, null_next_fits, pending_begins, pending_end, pending_found, pending_next}
+use mathlib.Core.Path.{refl, ◌∙◌}
+use Prim.Native.Nat.{◌+◌, ◌-◌}
 use borrow.Author.Rules.{rules}
+use borrow.Author.Tests.{tests}
+use Rattle.std.proofs.lemmas.Iterator.{YieldsList-from_range}
+use Rattle.std.proofs.lemmas.Iterator.Search.{any_from_yields_List}
+use Rattle.message.specs.Element.{element_at}
+use Rattle.hearing.specs.Scan.{grants}
+use Rattle.hearing.proofs.Scanning.{null_next_fits, pending_any}
 use Rattle.hearing.proofs.opportunity.pending.Goals as goal
 
-pub overflow_add-i : goal.overflow_add-i
-overflow_add-i c = search (rules, null_next_fits)
+pub overflow_add-reading : goal.overflow_add-reading
+overflow_add-reading c = search (rules, null_next_fits)
 
-pub loop-i-init : goal.loop-i-init
-loop-i-init c = (search few, search null_next, search pending_begins)
-
-pub loop-i-preserved : goal.loop-i-preserved
-loop-i-preserved c = (search rules, search rules, search pending_next)
-
-pub returns-then-reading-i : goal.returns-then-reading-i
-returns-then-reading-i c = search pending_end
-
-pub returns-then-granted_to : goal.returns-then-granted_to
-returns-then-granted_to c = search pending_found
+pub returns : goal.returns
+returns c =
+    let s = c.args.bytes.now in
+    let after = c.args.reading.null + 1 in
+    any_from_yields_List (λ i. grants c.args.sid (element_at s i).sid (element_at s i).iuc) _ _ c.any.result c.any.ensures.ran (YieldsList-from_range after c.args.reading.n (c.args.reading.n - after) refl refl) (λ x b q k. search (rules, tests))
+    ∙ pending_any s c.args.reading c.requires c.args.sid
