@@ -2,15 +2,14 @@
 ghost use Rattle.std.specs.Prelude.{◌≡◌, not};
 ghost use Rattle.slots.specs.Time.{earlier};
 ghost use Rattle.message.specs.Reading.{read_of, map_of};
-ghost use Rattle.message.specs.declared.reading.Verdict.TheVariants.{Accepted};
 ghost use Rattle.hearing.specs.Hearing.{stale, hear_fault, hearing, hearing_of, hear_of};
 ghost use Rattle.hearing.specs.Scan.{taken_in};
 
 use crate::answer::{Answer, Hearing, Sent};
-use crate::opportunity::{find, waiting_with_pending};
+use crate::map::Map;
 use crate::steps::{after_deferring, after_grant, sent_by};
 use backoff::ready_phase;
-use message::{Reading, Verdict, read};
+use message::{Verdict, read};
 use rules::{Fields, Refusal};
 use slots::MiniSlot;
 use station::{Phase, Remembered, Station, record_fault};
@@ -47,7 +46,7 @@ fn hear_verdict(
             station: st,
             answer: Answer::Refused(why),
         },
-        Verdict::Accepted(reading) => hear_map(st, bytes, reading, present, draw),
+        Verdict::Accepted(reading) => hear_map(st, Map { bytes, reading }, present, draw),
     }
 }
 
@@ -87,11 +86,10 @@ fn hear_fault(st: Station, fields: Fields, present: MiniSlot) -> u32
     0
 }
 
-fn hear_map(st: Station, bytes: &[u8], reading: Reading, present: MiniSlot, draw: u16) -> Hearing
-    requires { read_of bytes.now ≡ Accepted reading }
-    ensures { result ≡ hearing st (map_of bytes.now) present.0 draw }
+fn hear_map(st: Station, map: Map, present: MiniSlot, draw: u16) -> Hearing
+    ensures { result ≡ hearing st (map_of map.entry.bytes.now) present.0 draw }
 {
-    let fields = reading.fields;
+    let fields = map.reading.fields;
     let f = hear_fault(st, fields, present);
     if f != 0 {
         return Hearing {
@@ -102,18 +100,15 @@ fn hear_map(st: Station, bytes: &[u8], reading: Reading, present: MiniSlot, draw
             }),
         };
     }
-    let taken = take(st, bytes, reading, draw);
+    let taken = take(st, map, draw);
     let start = fields.start;
     let phase = taken.phase;
     let request = taken.request;
     Hearing {
         station: Station {
-            sid: st.sid,
-            channel: st.channel,
-            count: st.count,
-            r: st.r,
-            end: Remembered::End(start.moved_on(reading.length)),
+            end: Remembered::End(start.moved_on(map.reading.length)),
             phase,
+            ..st
         },
         answer: Answer::Heard {
             bursts: taken.bursts,
@@ -130,15 +125,14 @@ pub(crate) struct Taken {
     pub request: Sent,
 }
 
-fn take(st: Station, bytes: &[u8], reading: Reading, draw: u16) -> Taken
-    requires { read_of bytes.now ≡ Accepted reading }
-    ensures { result ≡ taken_in st (map_of bytes.now) draw }
+fn take(st: Station, map: Map, draw: u16) -> Taken
+    ensures { result ≡ taken_in st (map_of map.entry.bytes.now) draw }
 {
-    let found = find(bytes, reading, st.sid, st.r);
-    let fields = reading.fields;
+    let found = map.find(st.sid, st.r);
+    let fields = map.reading.fields;
     let own = found.own;
     let phase = st.phase;
-    let waits = waiting_with_pending(bytes, reading, st.sid, phase);
+    let waits = map.waiting_with_pending(st.sid, phase);
     if found.bursts != 0 {
         return Taken {
             bursts: found.bursts,
@@ -147,7 +141,7 @@ fn take(st: Station, bytes: &[u8], reading: Reading, draw: u16) -> Taken
         };
     }
     let ready = ready_phase(waits, fields, draw, phase);
-    let after = after_deferring(st, bytes, reading, own, ready);
+    let after = after_deferring(st, map, own, ready);
     Taken {
         bursts: 0,
         phase: after,

@@ -4,14 +4,14 @@
 ghost use Rattle.std.specs.Prelude.{◌≡◌, not, [], ◌∷◌, ◌<◌};
 ghost use Rattle.message.specs.Lists.{is_empty};
 ghost use Rattle.message.specs.Map.{intervals, pendings_to};
-ghost use Rattle.message.specs.Reading.{read_of, map_of};
-ghost use Rattle.message.specs.declared.reading.Verdict.TheVariants.{Accepted};
+ghost use Rattle.message.specs.Reading.{map_of};
 ghost use Rattle.hearing.specs.Opportunities.{contention};
 ghost use Rattle.hearing.specs.Scan.{first_of, grants, found_in, waiting_with, apart};
 ghost use Rattle.hearing.specs.Steps.{passing};
 
 use crate::answer::Sent;
-use message::{Reading, element_at};
+use crate::map::Map;
+use message::element_at;
 use rules::{Element, granting};
 use slots::MiniSlot;
 use station::Phase;
@@ -55,54 +55,10 @@ fn noted(found: Found, e: Element, length: u32, start: MiniSlot, r: u32) -> Foun
     }
 }
 
-pub(crate) fn find(bytes: &[u8], reading: Reading, sid: u32, r: u32) -> Found
-    requires { read_of bytes.now ≡ Accepted reading }
-    ensures { result ≡ found_in reading.fields.start.0 sid r (record { bursts = 0; own = Sent.Nothing }) (intervals (map_of bytes.now).elements) }
-{
-    let fields = reading.fields;
-    let start = fields.start;
-    let mut found = Found {
-        bursts: 0,
-        own: Sent::Nothing,
-    };
-    for i in 0..reading.null {
-        let e = element_at(bytes, i as usize);
-        if e.sid == sid {
-            let next = element_at(bytes, (i + 1) as usize);
-            found = noted(found, e, next.offset - e.offset, start, r);
-        }
-    }
-    found
-}
-
 fn granted_to(e: Element, sid: u32) -> bool
     ensures { result ≡ grants sid e.sid e.iuc }
 {
     granting(e.iuc) & (e.sid == sid)
-}
-
-// Whether a pending for the SID follows the Null.
-fn pending(bytes: &[u8], reading: Reading, sid: u32) -> bool
-    requires { read_of bytes.now ≡ Accepted reading }
-    ensures { result ≡ not (is_empty (pendings_to sid (map_of bytes.now).elements)) }
-{
-    (reading.null + 1..reading.n).any(|i| granted_to(element_at(bytes, i as usize), sid))
-}
-
-// "Waiting with a pending": only a station that waits asks for one.
-pub(crate) fn waiting_with_pending(bytes: &[u8], reading: Reading, sid: u32, phase: Phase) -> bool
-    requires { read_of bytes.now ≡ Accepted reading }
-    ensures { result ≡ waiting_with (not (is_empty (pendings_to sid (map_of bytes.now).elements))) phase }
-{
-    match phase {
-        Phase::Waiting {
-            exponent,
-            retries,
-            time,
-            size,
-        } => pending(bytes, reading, sid),
-        _ => false,
-    }
 }
 
 fn step_of(e: Element, r: u32) -> u32
@@ -141,42 +97,74 @@ pub(crate) fn sent_at(exponent: u32, retries: u32, time: MiniSlot, size: u32) ->
     }
 }
 
-// 4, without a Request to the own SID: the contention opportunities of each interval together.
-pub(crate) fn pass(
-    bytes: &[u8],
-    reading: Reading,
-    r: u32,
-    exponent: u32,
-    mut left: u32,
-    retries: u32,
-    size: u32,
-) -> Phase
-    requires { read_of bytes.now ≡ Accepted reading }
-    ensures { result ≡ passing (contention r (map_of bytes.now)) exponent left retries size }
-{
-    let fields = reading.fields;
-    let start = fields.start;
-    for i in 0..reading.null {
-        let e = element_at(bytes, i as usize);
-        let step = step_of(e, r);
-        if step != 0 {
-            let next = element_at(bytes, (i + 1) as usize);
-            let count = (next.offset - e.offset) / step;
-            if left < count {
-                return sent_at(
-                    exponent,
-                    retries,
-                    start.moved_on(e.offset + left * step),
-                    size,
-                );
+impl Map<'_> {
+    pub(crate) fn find(self, sid: u32, r: u32) -> Found
+        ensures { result ≡ found_in self.entry.reading.fields.start.0 sid r (record { bursts = 0; own = Sent.Nothing }) (intervals (map_of self.entry.bytes.now).elements) }
+    {
+        let start = self.reading.fields.start;
+        let mut found = Found {
+            bursts: 0,
+            own: Sent::Nothing,
+        };
+        for i in 0..self.reading.null {
+            let e = self.element(i);
+            if e.sid == sid {
+                let next = self.element(i + 1);
+                found = noted(found, e, next.offset - e.offset, start, r);
             }
-            left -= count;
+        }
+        found
+    }
+
+    // Whether a pending for the SID follows the Null.
+    fn pending(self, sid: u32) -> bool
+        ensures { result ≡ not (is_empty (pendings_to sid (map_of self.entry.bytes.now).elements)) }
+    {
+        (self.reading.null + 1..self.reading.n).any(|i| granted_to(self.element(i), sid))
+    }
+
+    // "Waiting with a pending": only a station that waits asks for one.
+    pub(crate) fn waiting_with_pending(self, sid: u32, phase: Phase) -> bool
+        ensures { result ≡ waiting_with (not (is_empty (pendings_to sid (map_of self.entry.bytes.now).elements))) phase }
+    {
+        match phase {
+            Phase::Waiting {
+                exponent,
+                retries,
+                time,
+                size,
+            } => self.pending(sid),
+            _ => false,
         }
     }
-    Phase::Deferring {
-        exponent,
-        left,
-        retries,
-        size,
+
+    // 4, without a Request to the own SID: the contention opportunities of each interval together.
+    pub(crate) fn pass(self, r: u32, exponent: u32, mut left: u32, retries: u32, size: u32) -> Phase
+        ensures { result ≡ passing (contention r (map_of self.entry.bytes.now)) exponent left retries size }
+    {
+        let start = self.reading.fields.start;
+        for i in 0..self.reading.null {
+            let e = self.element(i);
+            let step = step_of(e, r);
+            if step != 0 {
+                let next = self.element(i + 1);
+                let count = (next.offset - e.offset) / step;
+                if left < count {
+                    return sent_at(
+                        exponent,
+                        retries,
+                        start.moved_on(e.offset + left * step),
+                        size,
+                    );
+                }
+                left -= count;
+            }
+        }
+        Phase::Deferring {
+            exponent,
+            left,
+            retries,
+            size,
+        }
     }
 }

@@ -1,14 +1,13 @@
 // The first and the last step of an accepted MAP on a station's phase.
 ghost use Rattle.std.specs.Prelude.{◌≡◌};
-ghost use Rattle.message.specs.Reading.{read_of, map_of};
-ghost use Rattle.message.specs.declared.reading.Verdict.TheVariants.{Accepted};
+ghost use Rattle.message.specs.Reading.{map_of};
 ghost use Rattle.hearing.specs.Opportunities.{contention, own};
 ghost use Rattle.hearing.specs.Scan.{first_of};
 ghost use Rattle.hearing.specs.Steps.{granted, sending, waiting_since, sent_by};
 
 use crate::answer::Sent;
-use crate::opportunity::{pass, sent_at};
-use message::Reading;
+use crate::map::Map;
+use crate::opportunity::sent_at;
 use station::{Phase, Station};
 
 // 1. There is a grant.
@@ -32,15 +31,9 @@ pub(crate) fn after_grant(pending: bool, phase: Phase) -> Phase
 }
 
 // 4. Deferring: the first usable Request to the own SID, or contention.
-pub(crate) fn after_deferring(
-    st: Station,
-    bytes: &[u8],
-    reading: Reading,
-    first: Sent,
-    phase: Phase,
-) -> Phase
-    requires { (read_of bytes.now ≡ Accepted reading) × (first ≡ first_of Sent.Nothing (own st.sid st.r (map_of bytes.now))) }
-    ensures { result ≡ sending (own st.sid st.r (map_of bytes.now)) (contention st.r (map_of bytes.now)) phase }
+pub(crate) fn after_deferring(st: Station, map: Map, first: Sent, phase: Phase) -> Phase
+    requires { first ≡ first_of Sent.Nothing (own st.sid st.r (map_of map.bytes.now)) }
+    ensures { result ≡ sending (own st.sid st.r (map_of map.entry.bytes.now)) (contention st.r (map_of map.entry.bytes.now)) phase }
 {
     match phase {
         Phase::Deferring {
@@ -50,7 +43,7 @@ pub(crate) fn after_deferring(
             size,
         } => match first {
             Sent::At(time) => sent_at(exponent, retries, time, size),
-            Sent::Nothing => pass(bytes, reading, st.r, exponent, left, retries, size),
+            Sent::Nothing => map.pass(st.r, exponent, left, retries, size),
         },
         _ => phase,
     }

@@ -1,8 +1,5 @@
-use Rattle.hearing.proofs.Ways.{verdict_read, verdict_refused, verdict_accepted}
+use Rattle.hearing.proofs.Ways.{verdict_refused, verdict_accepted}
 use Rattle.hearing.proofs.hearing.hear_verdict.Goals as goal
-
-pub hear_map-requires : goal.hear_map-requires
-hear_map-requires c = search verdict_read
 
 pub returns-in-Refused : goal.returns-in-Refused
 returns-in-Refused c = search (verdict_refused, verdict_accepted)

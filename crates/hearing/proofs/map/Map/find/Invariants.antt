@@ -6,10 +6,10 @@ use Rattle.message.specs.Map.{intervals}
 use Rattle.message.specs.Element.{element_at}
 use Prim.Native.Nat.{◌-◌, ◌≤◌, ◌<◌}
 use mathlib.Core.Path.{◌≡◌}
-use Rattle.hearing.proofs.opportunity.find.Given as goal
+use Rattle.hearing.proofs.map.Map.find.Given as goal
 
 abbrev pub invariant-loop-i : goal.invariant-loop-i
 invariant-loop-i l =
-    (l.fn.reading.null < 240) × (l.i ≤ l.fn.reading.null) × (l.found.bursts ≤ l.i)
-    × (found_in l.fn.reading.fields.start.0 l.sid l.r l.found (intervals (listed (element_at l.bytes) l.i (l.fn.reading.n - l.i)))
-    ≡ found_in l.fn.reading.fields.start.0 l.sid l.r (record { bursts = 0; own = Nothing }) (intervals (map_of l.bytes).elements))
+    (l.self.reading.null < 240) × (l.i ≤ l.self.reading.null) × (l.found.bursts ≤ l.i)
+    × (found_in l.self.reading.fields.start.0 l.sid l.r l.found (intervals (listed (element_at l.self.bytes.now) l.i (l.self.reading.n - l.i)))
+    ≡ found_in l.self.reading.fields.start.0 l.sid l.r (record { bursts = 0; own = Nothing }) (intervals (map_of l.self.bytes.now).elements))

@@ -1,7 +1,7 @@
 use Rattle.hearing.proofs.Scanning.{null_early, rises_on, place_fits, place_after_fits, pass_begins, pass_end, pass_next, pass_none, pass_sends}
 use borrow.Author.Rules.{rules}
-use Rattle.hearing.proofs.opportunity.pass.Goals as goal
-use Rattle.hearing.proofs.opportunity.pass.Goals.{then-step-ne0+else-left-count, else-step-ne0}
+use Rattle.hearing.proofs.map.Map.pass.Goals as goal
+use Rattle.hearing.proofs.map.Map.pass.Goals.{then-step-ne0+else-left-count, else-step-ne0}
 
 pub loop-i-init : goal.loop-i-init
 loop-i-init c = (search null_early, search rules, search pass_begins)

@@ -8,10 +8,10 @@ use Rattle.slots.specs.Time.{moved_on}
 use Prim.Native.Nat.{◌-◌, ◌≤◌, ◌<◌}
 use mathlib.Core.List.{map}
 use mathlib.Core.Path.{◌≡◌}
-use Rattle.hearing.proofs.opportunity.pass.Given as goal
+use Rattle.hearing.proofs.map.Map.pass.Given as goal
 
 abbrev pub invariant-loop-i : goal.invariant-loop-i
 invariant-loop-i l =
-    (l.fn.reading.null < 240) × (l.i ≤ l.fn.reading.null)
-    × (passing (map (moved_on 32 l.start.0) (gather (contention_in l.r) (intervals (listed (element_at l.bytes) l.i (l.fn.reading.n - l.i))))) l.exponent l.left l.retries l.size
-    ≡ passing (contention l.r (map_of l.bytes)) l.exponent l.fn.left l.retries l.size)
+    (l.self.reading.null < 240) × (l.i ≤ l.self.reading.null)
+    × (passing (map (moved_on 32 l.start.0) (gather (contention_in l.r) (intervals (listed (element_at l.self.bytes.now) l.i (l.self.reading.n - l.i))))) l.exponent l.left l.retries l.size
+    ≡ passing (contention l.r (map_of l.self.bytes.now)) l.exponent l.fn.left l.retries l.size)

@@ -1,0 +1,23 @@
+// A MAP that was read and accepted: its bytes, and what was read of them.
+ghost use Rattle.std.specs.Prelude.{◌≡◌};
+ghost use Rattle.message.specs.Element.{element_at};
+ghost use Rattle.message.specs.Reading.{read_of};
+ghost use Rattle.message.specs.declared.reading.Verdict.TheVariants.{Accepted};
+
+use message::{Reading, element_at};
+use rules::Element;
+
+#[derive(Clone, Copy)]
+pub(crate) struct Map<'a> {
+    pub(crate) bytes: &'a [u8],
+    pub(crate) reading: Reading,
+    ghost accepted: { read_of bytes.now ≡ Accepted reading },
+}
+
+impl Map<'_> {
+    pub(crate) fn element(self, i: u32) -> Element
+        ensures { result ≡ element_at self.entry.bytes.now i }
+    {
+        element_at(self.bytes, i as usize)
+    }
+}
