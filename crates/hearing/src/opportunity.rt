@@ -6,15 +6,14 @@ ghost use Rattle.message.specs.Lists.{is_empty};
 ghost use Rattle.message.specs.Map.{intervals, pendings_to};
 ghost use Rattle.message.specs.Reading.{map_of};
 ghost use Rattle.hearing.specs.Opportunities.{contention};
-ghost use Rattle.hearing.specs.Scan.{first_of, grants, found_in, waiting_with, apart};
-ghost use Rattle.hearing.specs.Steps.{passing};
+ghost use Rattle.hearing.specs.Scan.{first_of, grants, found_in, waiting_with, apart, passed_by};
 
 use crate::answer::Sent;
 use crate::map::Map;
-use message::element_at;
 use rules::{Element, granting};
 use slots::MiniSlot;
 use station::Phase;
+use std::ops::ControlFlow;
 
 // The data bursts of a station, and the first usable Request to its own SID.
 #[derive(Clone, Copy)]
@@ -85,18 +84,6 @@ fn step_of(e: Element, r: u32) -> u32
     e.sid - 0x3FF0
 }
 
-// "Sending makes it Waiting, request time the opportunity's first mini-slot."
-pub(crate) fn sent_at(exponent: u32, retries: u32, time: MiniSlot, size: u32) -> Phase
-    ensures { result ≡ Phase.Waiting exponent retries time size }
-{
-    Phase::Waiting {
-        exponent,
-        retries,
-        time,
-        size,
-    }
-}
-
 impl Map<'_> {
     pub(crate) fn find(self, sid: u32, r: u32) -> Found
         ensures { result ≡ found_in self.entry.reading.fields.start.0 sid r (record { bursts = 0; own = Sent.Nothing }) (intervals (map_of self.entry.bytes.now).elements) }
@@ -128,19 +115,15 @@ impl Map<'_> {
         ensures { result ≡ waiting_with (not (is_empty (pendings_to sid (map_of self.entry.bytes.now).elements))) phase }
     {
         match phase {
-            Phase::Waiting {
-                exponent,
-                retries,
-                time,
-                size,
-            } => self.pending(sid),
+            Phase::Waiting { .. } => self.pending(sid),
             _ => false,
         }
     }
 
     // 4, without a Request to the own SID: the contention opportunities of each interval together.
-    pub(crate) fn pass(self, r: u32, exponent: u32, mut left: u32, retries: u32, size: u32) -> Phase
-        ensures { result ≡ passing (contention r (map_of self.entry.bytes.now)) exponent left retries size }
+    // The first mini-slot of the one that is sent in, or how many are left to pass.
+    pub(crate) fn pass(self, r: u32, mut left: u32) -> ControlFlow<MiniSlot, u32>
+        ensures { result ≡ passed_by (contention r (map_of self.entry.bytes.now)) left }
     {
         let start = self.reading.fields.start;
         for i in 0..self.reading.null {
@@ -150,21 +133,11 @@ impl Map<'_> {
                 let next = self.element(i + 1);
                 let count = (next.offset - e.offset) / step;
                 if left < count {
-                    return sent_at(
-                        exponent,
-                        retries,
-                        start.moved_on(e.offset + left * step),
-                        size,
-                    );
+                    return ControlFlow::Break(start.moved_on(e.offset + left * step));
                 }
                 left -= count;
             }
         }
-        Phase::Deferring {
-            exponent,
-            left,
-            retries,
-            size,
-        }
+        ControlFlow::Continue(left)
     }
 }

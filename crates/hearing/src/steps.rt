@@ -2,31 +2,35 @@
 ghost use Rattle.std.specs.Prelude.{◌≡◌};
 ghost use Rattle.message.specs.Reading.{map_of};
 ghost use Rattle.hearing.specs.Opportunities.{contention, own};
-ghost use Rattle.hearing.specs.Scan.{first_of};
+ghost use Rattle.hearing.specs.Scan.{first_of, sent_in};
 ghost use Rattle.hearing.specs.Steps.{granted, sending, waiting_since, sent_by};
 
 use crate::answer::Sent;
 use crate::map::Map;
-use crate::opportunity::sent_at;
+use slots::MiniSlot;
 use station::{Phase, Station};
+use std::ops::ControlFlow;
 
 // 1. There is a grant.
 pub(crate) fn after_grant(pending: bool, phase: Phase) -> Phase
     ensures { result ≡ granted pending phase }
 {
+    if !pending {
+        return Phase::Idle;
+    }
     match phase {
-        Phase::Waiting {
-            exponent,
-            retries,
-            time,
-            size,
-        } => {
-            if pending {
-                return phase;
-            }
-            Phase::Idle
-        }
+        Phase::Waiting { .. } => phase,
         _ => Phase::Idle,
+    }
+}
+
+// The opportunity that a Deferring station sends in, or how many it has left to pass.
+fn sent_in(map: Map, r: u32, first: Sent, left: u32) -> ControlFlow<MiniSlot, u32>
+    ensures { result ≡ sent_in first (contention r (map_of map.entry.bytes.now)) left }
+{
+    match first {
+        Sent::At(time) => ControlFlow::Break(time),
+        Sent::Nothing => map.pass(r, left),
     }
 }
 
@@ -35,17 +39,29 @@ pub(crate) fn after_deferring(st: Station, map: Map, first: Sent, phase: Phase) 
     requires { first ≡ first_of Sent.Nothing (own st.sid st.r (map_of map.bytes.now)) }
     ensures { result ≡ sending (own st.sid st.r (map_of map.entry.bytes.now)) (contention st.r (map_of map.entry.bytes.now)) phase }
 {
-    match phase {
-        Phase::Deferring {
+    let Phase::Deferring {
+        exponent,
+        left,
+        retries,
+        size,
+    } = phase
+    else {
+        return phase;
+    };
+    match sent_in(map, st.r, first, left) {
+        // "Sending makes it Waiting, request time the opportunity's first mini-slot."
+        ControlFlow::Break(time) => Phase::Waiting {
+            exponent,
+            retries,
+            time,
+            size,
+        },
+        ControlFlow::Continue(left) => Phase::Deferring {
             exponent,
             left,
             retries,
             size,
-        } => match first {
-            Sent::At(time) => sent_at(exponent, retries, time, size),
-            Sent::Nothing => map.pass(st.r, exponent, left, retries, size),
         },
-        _ => phase,
     }
 }
 
@@ -53,12 +69,7 @@ fn waiting_since(phase: Phase) -> Sent
     ensures { result ≡ waiting_since phase }
 {
     match phase {
-        Phase::Waiting {
-            exponent,
-            retries,
-            time,
-            size,
-        } => Sent::At(time),
+        Phase::Waiting { time, .. } => Sent::At(time),
         _ => Sent::Nothing,
     }
 }
@@ -68,12 +79,7 @@ pub(crate) fn sent_by(before: Phase, after: Phase) -> Sent
     ensures { result ≡ sent_by before after }
 {
     match before {
-        Phase::Deferring {
-            exponent,
-            left,
-            retries,
-            size,
-        } => waiting_since(after),
+        Phase::Deferring { .. } => waiting_since(after),
         _ => Sent::Nothing,
     }
 }

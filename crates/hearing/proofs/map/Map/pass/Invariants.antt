@@ -1,4 +1,4 @@
-use Rattle.hearing.specs.Steps.{passing}
+use Rattle.hearing.specs.Scan.{passed_by}
 use Rattle.hearing.specs.Opportunities.{contention_in, contention}
 use Rattle.message.specs.Reading.{map_of}
 use Rattle.message.specs.Map.{intervals}
@@ -13,5 +13,5 @@ use Rattle.hearing.proofs.map.Map.pass.Given as goal
 abbrev pub invariant-loop-i : goal.invariant-loop-i
 invariant-loop-i l =
     (l.self.reading.null < 240) × (l.i ≤ l.self.reading.null)
-    × (passing (map (moved_on 32 l.start.0) (gather (contention_in l.r) (intervals (listed (element_at l.self.bytes.now) l.i (l.self.reading.n - l.i))))) l.exponent l.left l.retries l.size
-    ≡ passing (contention l.r (map_of l.self.bytes.now)) l.exponent l.fn.left l.retries l.size)
+    × (passed_by (map (moved_on 32 l.start.0) (gather (contention_in l.r) (intervals (listed (element_at l.self.bytes.now) l.i (l.self.reading.n - l.i))))) l.left
+    ≡ passed_by (contention l.r (map_of l.self.bytes.now)) l.fn.left)
