@@ -8,6 +8,7 @@ use native.Mathlib.Omega.{arith}
 use lib.Dec.{leb, ltb, eqb}
 use lib.ListN.{length, length-append}
 use borrow.Author.Tests.{lt-ltb, le-ltb, le-leb, lt-leb, eq-eqb, ne_eqb, not-true, not-false, eqb-true, ltb-true, ltb-false}
+use Rattle.std.specs.List.{list_any, range_with_len}
 use Rattle.slots.specs.declared.time.MiniSlot.{MiniSlot}
 use Rattle.slots.specs.Time.{moved_on}
 use Rattle.rules.specs.declared.element.Element.{Element}
@@ -20,12 +21,11 @@ use Rattle.message.specs.Map.{Interval, intervals, pendings_to}
 use Rattle.message.specs.Reading.{read_of, map_of}
 use Rattle.message.proofs.Ways.{said, said_not, or_none}
 use Rattle.message.proofs.Accepted.{accepted, keep_append, gather_append, interval_to, interval_next, interval_end, after_null_lem}
-use Rattle.station.specs.declared.record.Phase.{Phase}
-use Rattle.station.specs.declared.record.Phase.TheVariants.{Deferring, Waiting}
+use Rattle.std.specs.declared.ops.ControlFlow.{ControlFlow}
+use Rattle.std.specs.declared.ops.ControlFlow.TheVariants.{Break, Continue}
 use Rattle.hearing.specs.declared.opportunity.Found.{Found}
 use Rattle.hearing.specs.Opportunities.{spaced, contention_in, own_in, contention}
-use Rattle.hearing.specs.Scan.{first_of, grants, found_in, apart}
-use Rattle.hearing.specs.Steps.{passing}
+use Rattle.hearing.specs.Scan.{first_of, grants, found_in, apart, passed_by}
 use Rattle.std.specs.Prelude.{Option, Some, None, Ok}
 
 and_none : (b : Bool) → (b && false) ≡ false
@@ -127,48 +127,37 @@ contention_in_lem r k = go (eqb k.iuc 1 && eqb k.sid 0x3FFF) (eqb k.iuc 2 && wit
     go false true false = refl
     go false false c = rw (div-zero k.length) refl
 
-module _ (at : ℕ → ℕ) (exponent retries size : ℕ) (ts : List ℕ) where
+module _ (at : ℕ → ℕ) (ts : List ℕ) where
   -- fewer left than an interval gives: the request goes there
-  pub passing_sends : (step count first left : ℕ) → left < count → passing (map at (spaced first step count) ++ ts) exponent left retries size ≡ Waiting exponent retries (record { 0 = at (first + left * step) }) size
-  unfolding passing spaced
-  passing_sends step zero first left h = absurd (omega arith)
-  passing_sends step (suc count) first zero h = rw (zero-mul step, add-zero first) refl
-  passing_sends step (suc count) first (suc left) h =
-      let z : first + step + left * step ≡ first + suc left * step = rw (suc-mul left step) (omega arith) in passing_sends step count (first + step) left (omega arith) ∙ rw z refl
+  pub passed_sends : (step count first left : ℕ) → left < count → passed_by (map at (spaced first step count) ++ ts) left ≡ Break (record { 0 = at (first + left * step) })
+  unfolding passed_by spaced
+  passed_sends step zero first left h = absurd (omega arith)
+  passed_sends step (suc count) first zero h = rw (zero-mul step, add-zero first) refl
+  passed_sends step (suc count) first (suc left) h =
+      let z : first + step + left * step ≡ first + suc left * step = rw (suc-mul left step) (omega arith) in passed_sends step count (first + step) left (omega arith) ∙ rw z refl
 
   -- .. else they are passed all together
-  pub passing_on : (step count first left : ℕ) → count ≤ left → passing (map at (spaced first step count) ++ ts) exponent left retries size ≡ passing ts exponent (left - count) retries size
-  unfolding passing spaced
-  passing_on step zero first left h = rw (sub-zero left) refl
-  passing_on step (suc count) first zero h = absurd (omega arith)
-  passing_on step (suc count) first (suc left) h = let z : left - count ≡ suc left - suc count = omega arith in passing_on step count (first + step) left (omega arith) ∙ rw z refl
+  pub passed_on : (step count first left : ℕ) → count ≤ left → passed_by (map at (spaced first step count) ++ ts) left ≡ passed_by ts (left - count)
+  unfolding passed_by spaced
+  passed_on step zero first left h = rw (sub-zero left) refl
+  passed_on step (suc count) first zero h = absurd (omega arith)
+  passed_on step (suc count) first (suc left) h = let z : left - count ≡ suc left - suc count = omega arith in passed_on step count (first + step) left (omega arith) ∙ rw z refl
 
 -- the last of an interval's opportunities begins in it
 pub place_inside : (length step left : ℕ) → left < length / step → left * step ≤ length
 place_inside length step left h =
     let m : left * step ≤ length / step * step = mul-le-mul_right step (omega arith) in omega (arith, div-mul-le_self length step)
 
--- whether there is a pending among the elements from number i on
-unfoldable pub pending_from : (ℕ → Element) → ℕ → ℕ → ℕ → Bool
-pending_from el n σ i = not (is_empty (keep (λ e. grants σ e.sid e.iuc) (listed el i (n - i))))
-
-module _ (el : ℕ → Element) (n σ : ℕ) (whole : Bool) (i : ℕ) where
-  pub pending_end : pending_from el n σ i ≡ whole → n ≤ i → false ≡ whole
-  unfolding listed pending_from
-  pending_end left h = let none : n - i ≡ 0 = omega arith in rw none at left
-
-  module _ (e : Element) (b : Bool) (said : b ≡ grants σ e.sid e.iuc) (is : e ≡ el i) (more : i < n) (left : pending_from el n σ i ≡ whole) where
-    pub pending_found : b ≡ true → true ≡ whole
-    unfolding listed pending_from
-    pending_found t =
-        let one : n - i ≡ suc (n - (i + 1)) = omega arith in
-        let g : grants σ (el i).sid (el i).iuc ≡ true = rw (← is) (sym said ∙ t) in rw (one, g) at left
-
-    pub pending_next : b ≡ false → pending_from el n σ (i + 1) ≡ whole
-    unfolding listed pending_from
-    pending_next f =
-        let one : n - i ≡ suc (n - (i + 1)) = omega arith in
-        let g : grants σ (el i).sid (el i).iuc ≡ false = rw (← is) (sym said ∙ f) in rw (one, g) at left
+-- whether there is one among count elements from number i on
+any_kept : (g : Element → Bool) (el : ℕ → Element) (i count : ℕ) → list_any (λ j. g (el j)) (range_with_len i count) ≡ not (is_empty (keep g (listed el i count)))
+unfolding listed
+any_kept g el i zero = refl
+any_kept g el i (suc count) = go (g (el i)) (any_kept g el (i + 1) count)
+  where
+    go : (b : Bool) → list_any (λ j. g (el j)) (range_with_len (i + 1) count) ≡ not (is_empty (keep g (listed el (i + 1) count))) →
+        (b || list_any (λ j. g (el j)) (range_with_len (i + 1) count)) ≡ not (is_empty (cond b (el i ∷ keep g (listed el (i + 1) count)) (keep g (listed el (i + 1) count))))
+    go true more = refl
+    go false more = more
 
 module _ (s : List ℕ) (reading : Reading) (ok : read_of s ≡ Ok reading) where
   pub null_before : reading.null < reading.n
@@ -212,9 +201,9 @@ module _ (s : List ℕ) (reading : Reading) (ok : read_of s ≡ Ok reading) wher
   pub find_begins : (start σ r : ℕ) (found : Found) → found_in start σ r found (rest 0) ≡ found_in start σ r found (intervals (map_of s).elements)
   find_begins start σ r found = rw rest_all refl
 
-  pub pass_begins : (start r exponent left retries size : ℕ) → start ≡ reading.fields.start.0 → passing (map (moved_on 32 start) (gather (contention_in r) (rest 0))) exponent left retries size ≡ passing (contention r (map_of s)) exponent left retries size
+  pub pass_begins : (start r left : ℕ) → start ≡ reading.fields.start.0 → passed_by (map (moved_on 32 start) (gather (contention_in r) (rest 0))) left ≡ passed_by (contention r (map_of s)) left
   unfolding contention
-  pass_begins start r exponent left retries size h = rw (rest_all, h, (accepted s reading ok).fields) refl
+  pass_begins start r left h = rw (rest_all, h, (accepted s reading ok).fields) refl
 
   -- bursts and own Requests: what is found so far, with the rest, is the whole
   module _ (start σ r : ℕ) (whole found : Found) (i : ℕ) where
@@ -247,39 +236,38 @@ module _ (s : List ℕ) (reading : Reading) (ok : read_of s ≡ Ok reading) wher
     place_after_fits = omega (arith, place_early)
 
   -- the contention opportunities that the rest gives
-  module _ (start r : ℕ) (whole : Phase) (exponent left retries size i : ℕ) where
-    pub pass_end : i ≤ reading.null → reading.null ≤ i → passing (map (moved_on 32 start) (gather (contention_in r) (rest i))) exponent left retries size ≡ whole → Deferring exponent left retries size ≡ whole
-    unfolding passing
+  module _ (start r : ℕ) (whole : ControlFlow MiniSlot ℕ) (left i : ℕ) where
+    pub pass_end : i ≤ reading.null → reading.null ≤ i → passed_by (map (moved_on 32 start) (gather (contention_in r) (rest i))) left ≡ whole → Continue left ≡ whole
+    unfolding passed_by
     pass_end h l here = rw (rest_end i h l) at here
 
     module _ (e : Element) (step : ℕ) (steps : step ≡ apart r e.sid e.iuc) (more : i < reading.null) (is : e ≡ element_at s i)
-        (here : passing (map (moved_on 32 start) (gather (contention_in r) (rest i))) exponent left retries size ≡ whole) where
+        (here : passed_by (map (moved_on 32 start) (gather (contention_in r) (rest i))) left ≡ whole) where
       module _ (next : Element) (then : next ≡ element_at s (i + 1)) where
         abbrev count : ℕ
         count = (next.offset - e.offset) / step
 
-        split : passing (map (moved_on 32 start) (spaced e.offset step count) ++ map (moved_on 32 start) (gather (contention_in r) (rest (i + 1)))) exponent left retries size ≡ whole
+        split : passed_by (map (moved_on 32 start) (spaced e.offset step count) ++ map (moved_on 32 start) (gather (contention_in r) (rest (i + 1)))) left ≡ whole
         split = rw steps (rw (rest_next i more e next is then, contention_in_lem, map-append) at here)
 
-        pub pass_sends : (q : Phase) (time : MiniSlot) → q ≡ Waiting exponent retries time size → left < count → time.0 ≡ moved_on 32 start (e.offset + left * step) → q ≡ whole
-        pass_sends q time speaks h t =
+        pub pass_sends : (time : MiniSlot) → left < count → time.0 ≡ moved_on 32 start (e.offset + left * step) → Break time ≡ whole
+        pass_sends time h t =
             let z : time ≡ record { 0 = moved_on 32 start (e.offset + left * step) } = λ j. record { 0 = t j } in
-            speaks ∙ rw z (sym (passing_sends (moved_on 32 start) exponent retries size (map (moved_on 32 start) (gather (contention_in r) (rest (i + 1)))) step count e.offset left h) ∙ split)
+            rw z (sym (passed_sends (moved_on 32 start) (map (moved_on 32 start) (gather (contention_in r) (rest (i + 1)))) step count e.offset left h) ∙ split)
 
-        pub pass_next : (left' : ℕ) → left' ≡ left - count → count ≤ left → passing (map (moved_on 32 start) (gather (contention_in r) (rest (i + 1)))) exponent left' retries size ≡ whole
-        pass_next left' so h = rw so (sym (passing_on (moved_on 32 start) exponent retries size (map (moved_on 32 start) (gather (contention_in r) (rest (i + 1)))) step count e.offset left h) ∙ split)
+        pub pass_next : (left' : ℕ) → left' ≡ left - count → count ≤ left → passed_by (map (moved_on 32 start) (gather (contention_in r) (rest (i + 1)))) left' ≡ whole
+        pass_next left' so h = rw so (sym (passed_on (moved_on 32 start) (map (moved_on 32 start) (gather (contention_in r) (rest (i + 1)))) step count e.offset left h) ∙ split)
 
       -- an interval without contention opportunities
-      pub pass_none : (left' : ℕ) → left' ≡ left → step ≡ 0 → passing (map (moved_on 32 start) (gather (contention_in r) (rest (i + 1)))) exponent left' retries size ≡ whole
+      pub pass_none : (left' : ℕ) → left' ≡ left → step ≡ 0 → passed_by (map (moved_on 32 start) (gather (contention_in r) (rest (i + 1)))) left' ≡ whole
       pass_none left' so z =
           let none : ((element_at s (i + 1)).offset - e.offset) / step ≡ 0 = rw z (div-zero ((element_at s (i + 1)).offset - e.offset)) in
           pass_next (element_at s (i + 1)) refl left' (rw none (so ∙ sym (sub-zero left))) (omega (arith, none))
 
-  -- pendings
-  module _ (σ : ℕ) where
-    pub pending_begins : (i : ℕ) → i ≡ reading.null + 1 → pending_from (element_at s) reading.n σ i ≡ not (is_empty (pendings_to σ (map_of s).elements))
-    unfolding pendings_to pending_from
-    pending_begins i h = rw (h, (accepted s reading ok).elements, after_null_lem (element_at s) reading.n reading.null reading.length (accepted s reading ok).frame) refl
+  -- whether there is a pending
+  pub pending_any : (σ : ℕ) → list_any (λ i. grants σ (element_at s i).sid (element_at s i).iuc) (range_with_len (reading.null + 1) (reading.n - (reading.null + 1))) ≡ not (is_empty (pendings_to σ (map_of s).elements))
+  unfolding pendings_to
+  pending_any σ = any_kept (λ e. grants σ e.sid e.iuc) (element_at s) (reading.null + 1) (reading.n - (reading.null + 1)) ∙ rw ((accepted s reading ok).elements, after_null_lem (element_at s) reading.n reading.null reading.length (accepted s reading ok).frame) refl
 
 module _ (i : ℕ) (found found' : Found) (h : found.bursts ≤ i) where
   pub find_few : (start σ r : ℕ) (k : Interval) (then : Found) → found' ≡ then → then ≡ found_in start σ r found (k ∷ []) → found'.bursts ≤ i + 1

@@ -1,13 +1,15 @@
 -- The ways through the functions of a hearing: one law each, about the definitions only.
 use mathlib.Core.Path.{◌≡◌, refl, sym, ◌∙◌}
 use mathlib.Core.Bool.{Bool, true, false, not}
-use Prim.Native.Nat.{ℕ}
+use Prim.Native.Nat.{ℕ, zero, suc}
 use mathlib.Core.List.{List, [], ◌∷◌}
 use native.Mathlib.Nat.{zero-add}
 use lib.ListN.{length}
 use native.Mathlib.Omega.{arith}
 use lib.Dec.{ltb}
 use borrow.Author.Tests.{eq-eqb, ne_eqb, not-true}
+use Rattle.std.specs.declared.ops.ControlFlow.{ControlFlow}
+use Rattle.std.specs.declared.ops.ControlFlow.TheVariants.{Break, Continue}
 use Rattle.slots.specs.declared.time.MiniSlot.{MiniSlot}
 use Rattle.slots.specs.Time.{earlier, ahead, moved_on}
 use Rattle.message.specs.declared.reading.Reading.{Reading}
@@ -33,7 +35,7 @@ use Rattle.hearing.specs.Hearing.{stale, hear_fault, has_pending, ready_phase, q
 use Rattle.rules.specs.declared.refusal.Reason.{Reason}
 use Rattle.rules.specs.declared.refusal.Reason.TheVariants.{Channel, Description, Stale, Late}
 use Rattle.rules.specs.Refusals.{refusal, unless}
-use Rattle.hearing.specs.Scan.{first_of, found_in, waiting_with, taken_in, heard_by, hearable_in}
+use Rattle.hearing.specs.Scan.{first_of, found_in, waiting_with, passed_by, sent_in, taken_in, heard_by, hearable_in}
 use Rattle.std.specs.Prelude.{Option, Some, None, Result, Ok, Err}
 
 -- a pending is asked for in Waiting alone
@@ -66,37 +68,60 @@ module _ (b : Bool) (p : Phase) where
   unfolding granted
   granted_other h = not_waiting (λ q. Idle ≡ granted b q) refl (λ size. refl) (λ exponent left retries size. refl) p h
 
-  module _ (exponent retries : ℕ) (time : MiniSlot) (size : ℕ) (is : p ≡ Waiting exponent retries time size) where
-    pub granted_pending : b ≡ true → Waiting exponent retries time size ≡ granted b p
-    unfolding granted
-    granted_pending h = rw (is, h) refl
+  pub granted_pending : (exponent retries : ℕ) (time : MiniSlot) (size : ℕ) → p ≡ Waiting exponent retries time size → b ≡ true → p ≡ granted b p
+  unfolding granted
+  granted_pending exponent retries time size is h = rw (is, h) refl
 
-    pub granted_waiting : b ≡ false → Idle ≡ granted b p
-    unfolding granted
-    granted_waiting h = rw (is, h) refl
+  pub granted_alone : b ≡ false → Idle ≡ granted b p
+  unfolding granted
+  granted_alone h = rw h (go p)
+    where
+      go : (q : Phase) → Idle ≡ granted false q
+      go Idle = refl
+      go (Wanting size) = refl
+      go (Deferring exponent left retries size) = refl
+      go (Waiting exponent retries time size) = refl
 
 -- step 4, by the first of the own Requests
-module _ (os cs : List ℕ) (p : Phase) (first : Option MiniSlot) where
+abbrev deferred_to : ControlFlow MiniSlot ℕ → ℕ → ℕ → ℕ → Phase
+deferred_to (Break time) exponent retries size = Waiting exponent retries time size
+deferred_to (Continue left) exponent retries size = Deferring exponent left retries size
+
+passing_deferred : (cs : List ℕ) (exponent left retries size : ℕ) → deferred_to (passed_by cs left) exponent retries size ≡ passing cs exponent left retries size
+unfolding passing passed_by
+passing_deferred [] exponent left retries size = refl
+passing_deferred (t ∷ ts) exponent zero retries size = refl
+passing_deferred (t ∷ ts) exponent (suc left) retries size = passing_deferred ts exponent left retries size
+
+offered_deferred : (os cs : List ℕ) (exponent left retries size : ℕ) → deferred_to (sent_in (first_of None os) cs left) exponent retries size ≡ offered_own os cs exponent left retries size
+unfolding offered_own sent_in first_of
+offered_deferred [] cs exponent left retries size = passing_deferred cs exponent left retries size
+offered_deferred (t ∷ ts) cs exponent left retries size = refl
+
+module _ (cs : List ℕ) (first : Option MiniSlot) (left : ℕ) where
+  pub sent_own : (time : MiniSlot) → first ≡ Some time → Break time ≡ sent_in first cs left
+  unfolding sent_in
+  sent_own time e = rw e refl
+
+  pub sent_contention : (p : ControlFlow MiniSlot ℕ) → first ≡ None → p ≡ passed_by cs left → p ≡ sent_in first cs left
+  unfolding sent_in
+  sent_contention p e h = rw e h
+
+module _ (os cs : List ℕ) (p : Phase) where
   pub sending_other : NotDeferring p → p ≡ sending os cs p
   unfolding sending
   sending_other h = not_deferring (λ q. q ≡ sending os cs q) refl (λ size. refl) (λ exponent retries time size. refl) p h
 
-  module _ (exponent left retries size : ℕ) (is : p ≡ Deferring exponent left retries size) (of : first ≡ first_of None os) where
-    pub sending_own : (q : Phase) (time : MiniSlot) → first ≡ Some time → q ≡ Waiting exponent retries time size → q ≡ sending os cs p
-    unfolding sending first_of offered_own
-    sending_own q time e h = rw is (h ∙ go os (sym of ∙ e))
-      where
-        go : (l : List ℕ) → first_of None l ≡ Some time → Waiting exponent retries time size ≡ offered_own l cs exponent left retries size
-        go [] h = let z : ◌≡◌ {A = ℕ} 0 1 = cc in absurd (omega arith)
-        go (t ∷ ts) h = let z : record { 0 = t } ≡ time = cc in rw z refl
+  module _ (exponent left retries size : ℕ) (is : p ≡ Deferring exponent left retries size) (first : Option MiniSlot) (of : first ≡ first_of None os) (passed : ControlFlow MiniSlot ℕ) (so : passed ≡ sent_in first cs left) where
+    sending_passed : deferred_to passed exponent retries size ≡ sending os cs p
+    unfolding sending
+    sending_passed = rw (so, of, is) (offered_deferred os cs exponent left retries size)
 
-    pub sending_contention : (q : Phase) → first ≡ None → q ≡ passing cs exponent left retries size → q ≡ sending os cs p
-    unfolding sending first_of offered_own
-    sending_contention q e h = rw is (h ∙ go os (sym of ∙ e))
-      where
-        go : (l : List ℕ) → first_of None l ≡ None → passing cs exponent left retries size ≡ offered_own l cs exponent left retries size
-        go [] h = refl
-        go (t ∷ ts) h = let z : ◌≡◌ {A = ℕ} 0 1 = cc in absurd (omega arith)
+    pub sending_sent : (time : MiniSlot) → passed ≡ Break time → Waiting exponent retries time size ≡ sending os cs p
+    sending_sent time e = rw e at sending_passed
+
+    pub sending_left : (left' : ℕ) → passed ≡ Continue left' → Deferring exponent left' retries size ≡ sending os cs p
+    sending_left left' e = rw e at sending_passed
 
 module _ (p : Phase) where
   pub since_other : NotWaiting p → None ≡ waiting_since p
@@ -251,8 +276,8 @@ module _ (s : List ℕ) (reading : Reading) (ok : read_of s ≡ Ok reading) (st 
     taken_quiet ready after request h d e r =
         rw (none (grants_to st.sid (map_of s).elements) (sym found_bursts ∙ h), sym found_bursts ∙ h, r, e, d, pending, acknowledged_asked 32 (has_pending st (map_of s)) reading.fields draw st.phase, (accepted s reading ok).fields) refl
 
-pub ruleset step_ways = (said, said_not, not-true, waiting_other, waiting_waiting, granted_other, granted_pending, granted_waiting)
+pub ruleset step_ways = (said, said_not, not-true, waiting_other, waiting_waiting, granted_other, granted_pending, granted_alone)
 
-pub ruleset send_ways = (sending_other, sending_own, sending_contention, since_other, since_waiting, sent_other, sent_deferring)
+pub ruleset send_ways = (sent_own, sent_contention, sending_other, sending_sent, sending_left, since_other, since_waiting, sent_other, sent_deferring)
 
 pub ruleset hear_ways = (said, said_not, not-true, stale_never, stale_end, hear_12, hear_13, hear_14, hear_15, hear_good)

@@ -1,6 +1,9 @@
 -- How the code goes through a MAP: its intervals in one pass, a pending only where it counts. It serves private functions alone, no public
 -- promise cites these definitions, and each is in the terms of those that the paper's words gave.
-use Rattle.std.specs.Prelude.{ℕ, ◌+◌, ◌-◌, Bool, false, cond, ◌&&◌, List, [], ◌∷◌, map, ltb, eqb, length}
+use Rattle.std.specs.Prelude.{ℕ, zero, suc, ◌+◌, ◌-◌, Bool, false, cond, ◌&&◌, List, [], ◌∷◌, map, ltb, eqb, length}
+use Rattle.std.specs.declared.ops.ControlFlow.{ControlFlow}
+use Rattle.std.specs.declared.ops.ControlFlow.TheVariants.{Break, Continue}
+use Rattle.slots.specs.declared.time.MiniSlot.{MiniSlot}
 use Rattle.slots.specs.Time.{moved_on}
 use Rattle.rules.specs.Sids.{within}
 use Rattle.message.specs.Lists.{keep, gather}
@@ -50,6 +53,17 @@ unfoldable pub apart : ℕ → ℕ → ℕ → ℕ
 apart r sid iuc =
     cond (eqb iuc 1 && eqb sid 0x3FFF) r
     (cond (eqb iuc 2 && within 0x3FF1 0x3FFE sid) (cond (ltb (sid - 0x3FF0) r) 0 (sid - 0x3FF0)) 0)
+
+-- of opportunities passed in order: the one to send in, or how many are left to pass
+unfoldable pub passed_by : List ℕ → ℕ → ControlFlow MiniSlot ℕ
+passed_by [] left = Continue left
+passed_by (t ∷ ts) zero = Break (record { 0 = t })
+passed_by (t ∷ ts) (suc left) = passed_by ts left
+
+-- .. unless there is an own Request
+unfoldable pub sent_in : Option MiniSlot → List ℕ → ℕ → ControlFlow MiniSlot ℕ
+sent_in (Some time) ts left = Break time
+sent_in None ts left = passed_by ts left
 
 -- what the four steps come to
 abbrev pub taken_in : Station → Map → ℕ → Taken

@@ -1,12 +1,12 @@
 // Hearing a MAP.
 ghost use Rattle.std.specs.Prelude.{◌≡◌, not};
 ghost use Rattle.slots.specs.Time.{earlier};
-ghost use Rattle.message.specs.Reading.{read_of, map_of};
+ghost use Rattle.message.specs.Reading.{map_of};
 ghost use Rattle.hearing.specs.Hearing.{stale, hear_fault, heard_in, hear_of};
 ghost use Rattle.hearing.specs.Scan.{hearable_in, taken_in};
 
 use crate::answer::{Answer, Hearing};
-use crate::opportunity::{find, waiting_with_pending};
+use crate::map::Map;
 use crate::steps::{after_deferring, after_grant, sent_by};
 use backoff::ready_phase;
 use message::{Reading, read};
@@ -19,7 +19,7 @@ pub fn hear(station: Station, bytes: &[u8], present: MiniSlot, draw: u16) -> Hea
     ensures { result ≡ hear_of station bytes.now present.0 draw }
 {
     match hearable(station, bytes, present) {
-        Ok(reading) => heard(station, bytes, reading, draw),
+        Ok(reading) => heard(station, Map { bytes, reading }, draw),
         Err(why) => Hearing {
             station,
             answer: Err(why),
@@ -71,15 +71,14 @@ fn hear_fault(st: Station, fields: Fields, present: MiniSlot) -> Result<(), Reas
     Ok(())
 }
 
-fn heard(st: Station, bytes: &[u8], reading: Reading, draw: u16) -> Hearing
-    requires { read_of bytes.now ≡ Ok reading }
-    ensures { result ≡ heard_in st (map_of bytes.now) draw }
+fn heard(st: Station, map: Map, draw: u16) -> Hearing
+    ensures { result ≡ heard_in st (map_of map.entry.bytes.now) draw }
 {
-    let taken = take(st, bytes, reading, draw);
-    let start = reading.fields.start;
+    let taken = take(st, map, draw);
+    let Reading { fields, length, .. } = map.reading;
     Hearing {
         station: Station {
-            end: Some(start.moved_on(reading.length)),
+            end: Some(fields.start.moved_on(length)),
             phase: taken.phase,
             ..st
         },
@@ -98,12 +97,11 @@ pub(crate) struct Taken {
     pub request: Option<MiniSlot>,
 }
 
-fn take(st: Station, bytes: &[u8], reading: Reading, draw: u16) -> Taken
-    requires { read_of bytes.now ≡ Ok reading }
-    ensures { result ≡ taken_in st (map_of bytes.now) draw }
+fn take(st: Station, map: Map, draw: u16) -> Taken
+    ensures { result ≡ taken_in st (map_of map.entry.bytes.now) draw }
 {
-    let found = find(bytes, reading, st.sid, st.r);
-    let waits = waiting_with_pending(bytes, reading, st.sid, st.phase);
+    let found = map.find(st.sid, st.r);
+    let waits = map.waiting_with_pending(st.sid, st.phase);
     if found.bursts != 0 {
         return Taken {
             bursts: found.bursts,
@@ -111,8 +109,8 @@ fn take(st: Station, bytes: &[u8], reading: Reading, draw: u16) -> Taken
             request: None,
         };
     }
-    let ready = ready_phase(waits, reading.fields, draw, st.phase);
-    let after = after_deferring(st, bytes, reading, found.own, ready);
+    let ready = ready_phase(waits, map.reading.fields, draw, st.phase);
+    let after = after_deferring(st, map, found.own, ready);
     Taken {
         bursts: 0,
         phase: after,

@@ -3,6 +3,7 @@
 
 pub mod answer;
 pub mod hearing;
+mod map;
 pub mod opportunity;
 pub mod steps;
 

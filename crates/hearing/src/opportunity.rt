@@ -4,18 +4,18 @@
 ghost use Rattle.std.specs.Prelude.{◌≡◌, not, [], ◌∷◌, ◌<◌};
 ghost use Rattle.message.specs.Lists.{is_empty};
 ghost use Rattle.message.specs.Map.{intervals, pendings_to};
-ghost use Rattle.message.specs.Reading.{read_of, map_of};
+ghost use Rattle.message.specs.Reading.{map_of};
 ghost use Rattle.hearing.specs.Opportunities.{contention};
-ghost use Rattle.hearing.specs.Scan.{first_of, grants, found_in, waiting_with, apart};
-ghost use Rattle.hearing.specs.Steps.{passing};
+ghost use Rattle.hearing.specs.Scan.{first_of, grants, found_in, waiting_with, apart, passed_by};
 
-use message::{Reading, element_at};
+use crate::map::Map;
 use rules::{Element, granting};
 use slots::MiniSlot;
 use station::Phase;
+use std::ops::ControlFlow;
 
 // The data bursts of a station, and the first usable Request to its own SID.
-#[derive(Clone, Copy)]
+#[derive(Clone, Copy, PartialEq, Eq)]
 pub(crate) struct Found {
     pub bursts: u32,
     pub own: Option<MiniSlot>,
@@ -53,69 +53,10 @@ fn noted(found: Found, e: Element, length: u32, start: MiniSlot, r: u32) -> Foun
     }
 }
 
-pub(crate) fn find(bytes: &[u8], reading: Reading, sid: u32, r: u32) -> Found
-    requires { read_of bytes.now ≡ Ok reading }
-    ensures { result ≡ found_in reading.fields.start.0 sid r (record { bursts = 0; own = None }) (intervals (map_of bytes.now).elements) }
-{
-    let fields = reading.fields;
-    let start = fields.start;
-    let mut found = Found {
-        bursts: 0,
-        own: None,
-    };
-    let mut i: u32 = 0;
-    let out = loop {
-        if reading.null <= i {
-            break found;
-        }
-        let e = element_at(bytes, i as usize);
-        if e.sid == sid {
-            let next = element_at(bytes, (i + 1) as usize);
-            found = noted(found, e, next.offset - e.offset, start, r);
-        }
-        i += 1;
-    };
-    out
-}
-
 fn granted_to(e: Element, sid: u32) -> bool
     ensures { result ≡ grants sid e.sid e.iuc }
 {
     granting(e.iuc) & (e.sid == sid)
-}
-
-// Whether a pending for the SID follows the Null.
-fn pending(bytes: &[u8], reading: Reading, sid: u32) -> bool
-    requires { read_of bytes.now ≡ Ok reading }
-    ensures { result ≡ not (is_empty (pendings_to sid (map_of bytes.now).elements)) }
-{
-    let mut i: u32 = reading.null + 1;
-    let out = loop {
-        if reading.n <= i {
-            break false;
-        }
-        if granted_to(element_at(bytes, i as usize), sid) {
-            break true;
-        }
-        i += 1;
-    };
-    out
-}
-
-// "Waiting with a pending": only a station that waits asks for one.
-pub(crate) fn waiting_with_pending(bytes: &[u8], reading: Reading, sid: u32, phase: Phase) -> bool
-    requires { read_of bytes.now ≡ Ok reading }
-    ensures { result ≡ waiting_with (not (is_empty (pendings_to sid (map_of bytes.now).elements))) phase }
-{
-    match phase {
-        Phase::Waiting {
-            exponent,
-            retries,
-            time,
-            size,
-        } => pending(bytes, reading, sid),
-        _ => false,
-    }
 }
 
 fn step_of(e: Element, r: u32) -> u32
@@ -142,60 +83,60 @@ fn step_of(e: Element, r: u32) -> u32
     e.sid - 0x3FF0
 }
 
-// "Sending makes it Waiting, request time the opportunity's first mini-slot."
-pub(crate) fn sent_at(exponent: u32, retries: u32, time: MiniSlot, size: u32) -> Phase
-    ensures { result ≡ Phase.Waiting exponent retries time size }
-{
-    Phase::Waiting {
-        exponent,
-        retries,
-        time,
-        size,
-    }
-}
-
-// 4, without a Request to the own SID: the contention opportunities of each interval together.
-pub(crate) fn pass(
-    bytes: &[u8],
-    reading: Reading,
-    r: u32,
-    exponent: u32,
-    left: u32,
-    retries: u32,
-    size: u32,
-) -> Phase
-    requires { read_of bytes.now ≡ Ok reading }
-    ensures { result ≡ passing (contention r (map_of bytes.now)) exponent left retries size }
-{
-    let fields = reading.fields;
-    let start = fields.start;
-    let mut left = left;
-    let mut i: u32 = 0;
-    let out = loop {
-        if reading.null <= i {
-            break Phase::Deferring {
-                exponent,
-                left,
-                retries,
-                size,
-            };
-        }
-        let e = element_at(bytes, i as usize);
-        let step = step_of(e, r);
-        if step != 0 {
-            let next = element_at(bytes, (i + 1) as usize);
-            let count = (next.offset - e.offset) / step;
-            if left < count {
-                break sent_at(
-                    exponent,
-                    retries,
-                    start.moved_on(e.offset + left * step),
-                    size,
-                );
+impl Map<'_> {
+    pub(crate) fn find(self, sid: u32, r: u32) -> Found
+        ensures { result ≡ found_in self.entry.reading.fields.start.0 sid r (record { bursts = 0; own = None }) (intervals (map_of self.entry.bytes.now).elements) }
+    {
+        let start = self.reading.fields.start;
+        let mut found = Found {
+            bursts: 0,
+            own: None,
+        };
+        for i in 0..self.reading.null {
+            let e = self.element(i);
+            if e.sid == sid {
+                let next = self.element(i + 1);
+                found = noted(found, e, next.offset - e.offset, start, r);
             }
-            left -= count;
         }
-        i += 1;
-    };
-    out
+        found
+    }
+
+    // Whether a pending for the SID follows the Null.
+    fn pending(self, sid: u32) -> bool
+        ensures { result ≡ not (is_empty (pendings_to sid (map_of self.entry.bytes.now).elements)) }
+    {
+        (self.reading.null + 1..self.reading.n).any(|i| granted_to(self.element(i), sid))
+    }
+
+    // "Waiting with a pending": only a station that waits asks for one.
+    pub(crate) fn waiting_with_pending(self, sid: u32, phase: Phase) -> bool
+        ensures { result ≡ waiting_with (not (is_empty (pendings_to sid (map_of self.entry.bytes.now).elements))) phase }
+    {
+        match phase {
+            Phase::Waiting { .. } => self.pending(sid),
+            _ => false,
+        }
+    }
+
+    // 4, without a Request to the own SID: the contention opportunities of each interval together.
+    // The first mini-slot of the one that is sent in, or how many are left to pass.
+    pub(crate) fn pass(self, r: u32, mut left: u32) -> ControlFlow<MiniSlot, u32>
+        ensures { result ≡ passed_by (contention r (map_of self.entry.bytes.now)) left }
+    {
+        let start = self.reading.fields.start;
+        for i in 0..self.reading.null {
+            let e = self.element(i);
+            let step = step_of(e, r);
+            if step != 0 {
+                let next = self.element(i + 1);
+                let count = (next.offset - e.offset) / step;
+                if left < count {
+                    return ControlFlow::Break(start.moved_on(e.offset + left * step));
+                }
+                left -= count;
+            }
+        }
+        ControlFlow::Continue(left)
+    }
 }

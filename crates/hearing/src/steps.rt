@@ -1,57 +1,66 @@
 // The first and the last step of an accepted MAP on a station's phase.
 ghost use Rattle.std.specs.Prelude.{◌≡◌};
-ghost use Rattle.message.specs.Reading.{read_of, map_of};
+ghost use Rattle.message.specs.Reading.{map_of};
 ghost use Rattle.hearing.specs.Opportunities.{contention, own};
-ghost use Rattle.hearing.specs.Scan.{first_of};
+ghost use Rattle.hearing.specs.Scan.{first_of, sent_in};
 ghost use Rattle.hearing.specs.Steps.{granted, sending, waiting_since, sent_by};
 
-use crate::opportunity::{pass, sent_at};
-use message::Reading;
+use crate::map::Map;
 use slots::MiniSlot;
 use station::{Phase, Station};
+use std::ops::ControlFlow;
 
 // 1. There is a grant.
 pub(crate) fn after_grant(pending: bool, phase: Phase) -> Phase
     ensures { result ≡ granted pending phase }
 {
+    if !pending {
+        return Phase::Idle;
+    }
     match phase {
-        Phase::Waiting {
-            exponent,
-            retries,
-            time,
-            size,
-        } => {
-            if pending {
-                return phase;
-            }
-            Phase::Idle
-        }
+        Phase::Waiting { .. } => phase,
         _ => Phase::Idle,
     }
 }
 
-// 4. Deferring: the first usable Request to the own SID, or contention.
-pub(crate) fn after_deferring(
-    st: Station,
-    bytes: &[u8],
-    reading: Reading,
-    first: Option<MiniSlot>,
-    phase: Phase,
-) -> Phase
-    requires { (read_of bytes.now ≡ Ok reading) × (first ≡ first_of None (own st.sid st.r (map_of bytes.now))) }
-    ensures { result ≡ sending (own st.sid st.r (map_of bytes.now)) (contention st.r (map_of bytes.now)) phase }
+// The opportunity that a Deferring station sends in, or how many it has left to pass.
+fn sent_in(map: Map, r: u32, first: Option<MiniSlot>, left: u32) -> ControlFlow<MiniSlot, u32>
+    ensures { result ≡ sent_in first (contention r (map_of map.entry.bytes.now)) left }
 {
-    match phase {
-        Phase::Deferring {
+    match first {
+        Some(time) => ControlFlow::Break(time),
+        None => map.pass(r, left),
+    }
+}
+
+// 4. Deferring: the first usable Request to the own SID, or contention.
+pub(crate) fn after_deferring(st: Station, map: Map, first: Option<MiniSlot>, phase: Phase) -> Phase
+    requires { first ≡ first_of None (own st.sid st.r (map_of map.bytes.now)) }
+    ensures { result ≡ sending (own st.sid st.r (map_of map.entry.bytes.now)) (contention st.r (map_of map.entry.bytes.now)) phase }
+{
+    let Phase::Deferring {
+        exponent,
+        left,
+        retries,
+        size,
+    } = phase
+    else {
+        return phase;
+    };
+    match sent_in(map, st.r, first, left) {
+        // "Sending makes it Waiting, request time the opportunity's first mini-slot."
+        ControlFlow::Break(time) => Phase::Waiting {
+            exponent,
+            retries,
+            time,
+            size,
+        },
+        ControlFlow::Continue(left) => Phase::Deferring {
             exponent,
             left,
             retries,
             size,
-        } => match first {
-            Some(time) => sent_at(exponent, retries, time, size),
-            None => pass(bytes, reading, st.r, exponent, left, retries, size),
         },
-        _ => phase,
     }
 }
 
@@ -59,12 +68,7 @@ fn waiting_since(phase: Phase) -> Option<MiniSlot>
     ensures { result ≡ waiting_since phase }
 {
     match phase {
-        Phase::Waiting {
-            exponent,
-            retries,
-            time,
-            size,
-        } => Some(time),
+        Phase::Waiting { time, .. } => Some(time),
         _ => None,
     }
 }
@@ -74,12 +78,7 @@ pub(crate) fn sent_by(before: Phase, after: Phase) -> Option<MiniSlot>
     ensures { result ≡ sent_by before after }
 {
     match before {
-        Phase::Deferring {
-            exponent,
-            left,
-            retries,
-            size,
-        } => waiting_since(after),
+        Phase::Deferring { .. } => waiting_since(after),
         _ => None,
     }
 }

@@ -1,7 +1,9 @@
 // The report of an input, in one pass: each body is read once, its line is put at once, and of the
 // MAPs before it only their span is kept.
 ghost use Rattle.std.specs.Prelude.{◌≡◌, ◌≤◌, length};
-ghost use Rattle.report.specs.Text.{text_of};
+ghost use Rattle.slots.specs.Span.{span_of};
+ghost use Rattle.report.specs.Bodies.{bodies_of, maps_in};
+ghost use Rattle.report.specs.Text.{lines_from};
 ghost use Rattle.report.specs.Report.{enough, reported_of, report_into};
 ghost use Rattle.report.specs.Scan.{HasRoom, Put};
 
@@ -23,10 +25,12 @@ pub fn enough(n: usize) -> usize
     43 + 35 * (n.min(LONGEST_INPUT) / 24)
 }
 
-fn put_all(input: &[u8], lines: &mut Lines)
+// A line for each body, to the first that is bad; and the span of the MAPs.
+fn put_bodies(input: &[u8], lines: &mut Lines) -> Span
     requires short { length input.now ≤ 65536 }
-    requires room { HasRoom lines.old (text_of input.now) }
-    ensures { Put (text_of input.now) lines.old lines.new }
+    requires room { HasRoom lines.old (lines_from 0 (bodies_of input.now)) }
+    ensures span { result ≡ span_of 32 (maps_in (bodies_of input.now)) }
+    ensures lines { Put (lines_from 0 (bodies_of input.now)) lines.old lines.new }
 {
     let mut left = input;
     let mut number: u32 = 0;
@@ -41,11 +45,11 @@ fn put_all(input: &[u8], lines: &mut Lines)
             }
             Err(why) => {
                 lines.refused(number, why);
-                break;
+                return span;
             }
         }
     }
-    lines.span(span);
+    span
 }
 
 // How many bytes the report has, or that the lent bytes are too few for a report of any input as
@@ -61,6 +65,7 @@ pub fn report(input: &[u8], out: &mut [u8]) -> Result<usize, Refusal>
         lines.put(b"refused input\n");
         return Ok(lines.used);
     }
-    put_all(input, &mut lines);
+    let span = put_bodies(input, &mut lines);
+    lines.span(span);
     Ok(lines.used)
 }

@@ -1,7 +1,7 @@
 use Rattle.hearing.proofs.Scanning.{null_early, rises_on, place_fits, place_after_fits, pass_begins, pass_end, pass_next, pass_none, pass_sends}
 use borrow.Author.Rules.{rules}
-use Rattle.hearing.proofs.opportunity.pass.Goals as goal
-use Rattle.hearing.proofs.opportunity.pass.Goals.{then-step-ne0+else-left-count, else-step-ne0}
+use Rattle.hearing.proofs.map.Map.pass.Goals as goal
+use Rattle.hearing.proofs.map.Map.pass.Goals.{then-step-ne0+else-left-count, else-step-ne0}
 
 pub loop-i-init : goal.loop-i-init
 loop-i-init c = (search null_early, search rules, search pass_begins)
@@ -18,8 +18,8 @@ overflow_add-e c = record { fits = search place_after_fits }
 pub loop-i-preserved : goal.loop-i-preserved
 loop-i-preserved c = (search rules, search rules, elim c.if-step-ne0.branch [ then-step-ne0+else-left-count w ↦ search pass_next | else-step-ne0 w ↦ search pass_none ])
 
-pub returns-then-reading-i : goal.returns-then-reading-i
-returns-then-reading-i c = search pass_end
+pub returns : goal.returns
+returns c = search pass_end
 
 pub returns-then-left-count : goal.returns-then-left-count
 returns-then-left-count c = search pass_sends

@@ -1,10 +1,9 @@
 use lib.ListN.{length}
-use Rattle.report.specs.Text.{text_of}
 use Rattle.report.proofs.Running.{Going}
-use Rattle.report.proofs.reporting.put_all.Given as goal
+use Rattle.report.proofs.reporting.put_bodies.Given as goal
 
 abbrev pub invariant-loop-left : goal.invariant-loop-left
-invariant-loop-left l = Going (text_of l.input) l.left l.number l.span l.initial.lines l.lines
+invariant-loop-left l = Going l.input l.left l.number l.span l.initial.lines l.lines
 
 abbrev pub decreases-loop-left : goal.decreases-loop-left
 decreases-loop-left l = length l.left

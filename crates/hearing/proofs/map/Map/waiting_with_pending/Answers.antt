@@ -1,5 +1,5 @@
 use Rattle.hearing.proofs.Ways.{step_ways}
-use Rattle.hearing.proofs.opportunity.waiting_with_pending.Goals as goal
+use Rattle.hearing.proofs.map.Map.waiting_with_pending.Goals as goal
 
 pub returns-in-Waiting : goal.returns-in-Waiting
 returns-in-Waiting c = search step_ways
