@@ -5,7 +5,7 @@ use Rattle.rules.specs.declared.fields.Fields.{Fields}
 use Rattle.rules.specs.declared.refusal.Reason.{Reason}
 use Rattle.rules.specs.declared.refusal.Reason.TheVariants.{Room, Ack, Plan, Selfcheck}
 use Rattle.rules.specs.declared.refusal.Refusal.{Refusal}
-use Rattle.rules.specs.Refusals.{refusal, then}
+use Rattle.rules.specs.Refusals.{refusal, changed, then}
 use Rattle.message.specs.declared.reading.Reading.{Reading}
 use Rattle.message.specs.Map.{Map, map_length}
 use Rattle.message.specs.Reading.{read_of}
@@ -93,9 +93,5 @@ unfoldable pub issue_of : Headend → ℕ → ℕ → ℕ → ℕ → Issuing
 issue_of h ack c budget room = issue_by h ack c budget (issue_fault h ack c budget room)
 
 -- what the lent bytes hold then: the MAP in "only its own" bytes, or what they held
-abbrev pub into_by : List ℕ → List ℕ → Result Unit Reason → List ℕ
-into_by message old (Ok u) = onto message old
-into_by message old (Err why) = old
-
 unfoldable pub issue_into : Headend → ℕ → ℕ → ℕ → List ℕ → List ℕ
-issue_into h ack c budget old = into_by (plan_message h ack c budget) old (issue_fault h ack c budget (length old))
+issue_into h ack c budget old = changed (issue_fault h ack c budget (length old)) (onto (plan_message h ack c budget) old) old

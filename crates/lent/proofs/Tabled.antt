@@ -1,64 +1,55 @@
 -- The loop of `hear_table`, as a function on lists: what k more turns from the place i make of the records and of the places; and that as many turns as there are records, from 0, make what the contract says.
-use mathlib.Core.Path.{◌≡◌, refl, ◌∙◌, ap, subst}
+use mathlib.Core.Path.{◌≡◌, refl, sym, ◌∙◌, ap}
 use Prim.Native.Nat.{ℕ, zero, suc, ◌+◌, ◌-◌, ◌≤◌, ◌<◌}
 use native.Mathlib.Numerals.{add-one}
 use native.Mathlib.Omega.{arith}
-use mathlib.Core.Bool.{Bool, true, false, cond}
 use mathlib.Core.List.{List, ◌++◌, append-nil}
-use lib.Dec.{ltb, eqb}
+use lib.Dec.{ltb}
 use lib.ListN.{length, get_or, set, take, drop, length-set, drop_of_length-le, take-append-drop}
 use lib.Seq.{take_all, take-suc-set, drop-set-lt, drop-cons, append_snoc}
-use borrow.Author.Tests.{lt-ltb, le-ltb, ltb-true, ltb-false}
+use borrow.Author.Tests.{lt-ltb, le-ltb, ltb-false}
 use Rattle.station.specs.Offering.{fresh}
 use Rattle.station.specs.declared.record.Station.{Station}
 use Rattle.hearing.specs.declared.answer.Hearing.{Hearing}
-use Rattle.lent.specs.Table.{table_fault, number_in, placed, placed_of, records_after, places_after, table_of, places_of}
-use Rattle.lent.specs.Scan.{fit_of}
-use Rattle.lent.specs.declared.table.Fit.{Fit}
+use Rattle.lent.specs.Table.{table_fault, number_in, placed, placed_of, records_after, places_after, HearsTable}
+use Rattle.std.specs.Prelude.{Result, Ok, Err}
+use Rattle.rules.specs.declared.refusal.Reason.{Reason}
+use Rattle.rules.specs.declared.refusal.Reason.TheVariants.{Size}
+use Rattle.message.proofs.Ways.{passed}
 use Rattle.lent.specs.declared.table.Placed.{Placed}
 
--- `fits`: one law for each way through
-pub fit_over : (t d p : ℕ) → 32 < t → ◌≡◌ {A = Fit} (record { n = 0; code = 17 }) (fit_of t d p)
-unfolding fit_of table_fault
-fit_over t d p a = simp (lt-ltb 32 t a)
+-- `table_fault`: one law for each way through
+module _ (t d p : ℕ) where
+  pub fault_over : 32 < t → Err Size ≡ table_fault t d p
+  unfolding table_fault
+  fault_over a = simp (lt-ltb 32 t a)
 
-pub fit_draws : (t d p : ℕ) → t ≤ 32 → d < t → ◌≡◌ {A = Fit} (record { n = 0; code = 17 }) (fit_of t d p)
-unfolding fit_of table_fault
-fit_draws t d p a b = simp (le-ltb 32 t a, lt-ltb d t b)
+  pub fault_draws : t ≤ 32 → d < t → Err Size ≡ table_fault t d p
+  unfolding table_fault
+  fault_draws a b = simp (le-ltb 32 t a, lt-ltb d t b)
 
-pub fit_places : (t d p : ℕ) → t ≤ 32 → t ≤ d → p < t → ◌≡◌ {A = Fit} (record { n = 0; code = 17 }) (fit_of t d p)
-unfolding fit_of table_fault
-fit_places t d p a b c = simp (le-ltb 32 t a, le-ltb d t b, lt-ltb p t c)
+  pub fault_places : t ≤ 32 → t ≤ d → p < t → Err Size ≡ table_fault t d p
+  unfolding table_fault
+  fault_places a b c = simp (le-ltb 32 t a, le-ltb d t b, lt-ltb p t c)
 
-pub fit_all : (t d p : ℕ) → t ≤ 32 → t ≤ d → t ≤ p → ◌≡◌ {A = Fit} (record { n = t; code = 0 }) (fit_of t d p)
-unfolding fit_of table_fault
-fit_all t d p a b c = simp (le-ltb 32 t a, le-ltb d t b, le-ltb p t c)
+  pub fault_none : t ≤ 32 → t ≤ d → t ≤ p → Ok tt ≡ table_fault t d p
+  unfolding table_fault
+  fault_none a b c = simp (le-ltb 32 t a, le-ltb d t b, le-ltb p t c)
 
-pub ruleset fitting = (fit_over, fit_draws, fit_places, fit_all)
+  -- a table that is worked has a draw and a place for each record
+  pub fault_fits : table_fault t d p ≡ Ok tt → (t ≤ d) × (t ≤ p)
+  unfolding table_fault
+  fault_fits e =
+      let one = passed (ltb 32 t) Size _ e in
+      let two = passed (ltb d t) Size _ one.1 in
+      let three = passed (ltb p t) Size (Ok tt) two.1 in
+      (ltb-false d t two.0, ltb-false p t three.0)
+
+pub ruleset fitting = (fault_over, fault_draws, fault_places, fault_none)
 
 -- `hear_at`
 pub as_placed : {h h' : Hearing} {n : ℕ} → h ≡ h' → n ≡ number_in h.answer → ◌≡◌ {A = Placed} (record { station = h.station; number = n }) (placed h')
 as_placed {h} {h'} {n} e f = (λ i. record { station = h.station; number = f i }) ∙ ap placed e
-
--- no more records are worked than there are records, draws and places
-abbrev Inside : ℕ → ℕ → ℕ → Fit → Type 0
-Inside t d p g = (g.n ≤ t) × ((g.n ≤ d) × (g.n ≤ p))
-
-inside_none : (t d p : ℕ) → Inside t d p (record { n = 0; code = 17 })
-inside_none t d p = (omega arith, (omega arith, omega arith))
-
-pub within : (t d p : ℕ) → ((fit_of t d p).n ≤ t) × (((fit_of t d p).n ≤ d) × ((fit_of t d p).n ≤ p))
-within t d p = go (ltb 32 t) (ltb d t) (ltb p t) refl refl refl
-  where
-    go : (a b c : Bool) → ltb 32 t ≡ a → ltb d t ≡ b → ltb p t ≡ c → Inside t d p (fit_of t d p)
-    go true b c e f g = subst (Inside t d p) (fit_over t d p (ltb-true 32 t e)) (inside_none t d p)
-    go false true c e f g = subst (Inside t d p) (fit_draws t d p (ltb-false 32 t e) (ltb-true d t f)) (inside_none t d p)
-    go false false true e f g = subst (Inside t d p) (fit_places t d p (ltb-false 32 t e) (ltb-false d t f) (ltb-true p t g)) (inside_none t d p)
-    go false false false e f g = subst (Inside t d p) (fit_all t d p (ltb-false 32 t e) (ltb-false d t f) (ltb-false p t g)) (omega arith, (ltb-false d t f, ltb-false p t g))
-
-pub fit_code : (t d p : ℕ) → (fit_of t d p).code ≡ table_fault t d p
-unfolding fit_of
-fit_code t d p = refl
 
 -- what stands past the table's end
 abbrev pub none : Station
@@ -109,30 +100,19 @@ module _ (bytes : List ℕ) (present : ℕ) (draws : List ℕ) where
   pub turn_p : (n i : ℕ) (xs : List Station) (zs : List ℕ) (p : Placed) → i < n → p ≡ placed_at xs i → go_p (n - (i + 1)) (i + 1) (set xs i p.station) (set zs i p.number) ≡ go_p (n - i) i xs zs
   turn_p n i xs zs p l e = let left : n - i ≡ suc (n - (i + 1)) = omega arith in rw (left, e)
 
-module _ (bytes : List ℕ) (present : ℕ) (draws : List ℕ) (xs : List Station) (zs : List ℕ) where
-  all_s : (b : Bool) → cond b (length xs) 0 ≤ length draws → go_s bytes present draws (cond b (length xs) 0) 0 xs ≡ cond b (records_after bytes present xs draws) xs
-  all_s true l = go_s_is bytes present draws (length xs) 0 xs (omega arith) l
-  all_s false l = refl
-
-  all_p : (b : Bool) → cond b (length xs) 0 ≤ length draws → cond b (length xs) 0 ≤ length zs → go_p bytes present draws (cond b (length xs) 0) 0 xs zs ≡ cond b (places_after bytes present xs draws zs) zs
-  all_p true l m = go_p_is bytes present draws (length xs) 0 xs zs (omega arith) l m
-  all_p false l m = refl
-
-  pub fit_s : go_s bytes present draws (fit_of (length xs) (length draws) (length zs)).n 0 xs ≡ table_of bytes present draws xs zs
-  unfolding fit_of
-  fit_s = all_s (eqb (table_fault (length xs) (length draws) (length zs)) 0) (within (length xs) (length draws) (length zs)).1.0
-
-  pub fit_p : go_p bytes present draws (fit_of (length xs) (length draws) (length zs)).n 0 xs zs ≡ places_of bytes present draws xs zs
-  unfolding fit_of
-  fit_p = all_p (eqb (table_fault (length xs) (length draws) (length zs)) 0) (within (length xs) (length draws) (length zs)).1.0 (within (length xs) (length draws) (length zs)).1.1
+-- a table that is refused stays as it came
+module _ (bytes : List ℕ) (present : ℕ) (draws : List ℕ) (xs : List Station) (zs : List ℕ) (f : Result Unit Reason) (is : f ≡ table_fault (length xs) (length draws) (length zs)) where
+  pub table_refused : (why : Reason) → f ≡ Err why → HearsTable bytes present draws xs zs xs zs (Err why)
+  table_refused why h = let e = sym is ∙ h in (sym e, (rw e refl, rw e refl))
 
   -- .. and the loop's end
-  module _ (f : Fit) (is : f ≡ fit_of (length xs) (length draws) (length zs)) (i : ℕ) (ended : f.n ≤ i) (now : List Station) where
-    none_left : f.n - i ≡ 0
-    none_left = omega arith
-
-    pub ends_s : go_s bytes present draws (f.n - i) i now ≡ go_s bytes present draws f.n 0 xs → now ≡ table_of bytes present draws xs zs
-    ends_s e = (rw none_left at e) ∙ rw is fit_s
-
-    pub ends_p : (at : List ℕ) → go_p bytes present draws (f.n - i) i now at ≡ go_p bytes present draws f.n 0 xs zs → at ≡ places_of bytes present draws xs zs
-    ends_p at e = (rw none_left at e) ∙ rw is fit_p
+  pub table_heard : f ≡ Ok tt → (now : List Station) (at : List ℕ) → now ≡ go_s bytes present draws (length xs) 0 xs → at ≡ go_p bytes present draws (length xs) 0 xs zs → HearsTable bytes present draws xs zs now at (Ok tt)
+  table_heard h now at p q =
+      let e = sym is ∙ h in
+      let fits = fault_fits (length xs) (length draws) (length zs) e in (
+        sym e,
+        (
+          p ∙ go_s_is bytes present draws (length xs) 0 xs (omega arith) fits.0 ∙ rw e refl,
+          q ∙ go_p_is bytes present draws (length xs) 0 xs zs (omega arith) fits.0 fits.1 ∙ rw e refl,
+        ),
+      )

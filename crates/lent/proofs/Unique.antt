@@ -17,7 +17,9 @@ use Rattle.lent.specs.contracts.forty.hear_forty as hear-forty
 use Prim.Native.Nat.{ℕ}
 use mathlib.Core.List.{List}
 use Rattle.station.specs.declared.record.Station.{Station}
-use Rattle.station.specs.declared.record.Offered.{Offered}
+use Rattle.std.specs.Prelude.{Result}
+use Rattle.rules.specs.declared.refusal.Reason.{Reason}
+use Rattle.rules.specs.declared.refusal.Refusal.{Refusal}
 use Rattle.hearing.specs.declared.answer.Answer.{Answer}
 use Rattle.lent.specs.declared.forty.Window.{Window}
 use Rattle.lent.specs.declared.forty.Forty.{Forty}
@@ -25,21 +27,21 @@ use Rattle.lent.specs.InPlace.{HearsInPlace, OffersInPlace}
 use Rattle.lent.specs.Table.{HearsTable}
 use Rattle.lent.specs.Forty.{window_of, HearsForty}
 
-pub hear_in_place_unique : (before : Station) (bytes : List ℕ) (present draw : ℕ) (after after' : Station) (r r' : Answer) →
+pub hear_in_place_unique : (before : Station) (bytes : List ℕ) (present draw : ℕ) (after after' : Station) (r r' : Result Answer Refusal) →
     HearsInPlace before bytes present draw after r → HearsInPlace before bytes present draw after' r' → (after ≡ after') × (r ≡ r')
 hear_in_place_unique before bytes present draw after after' r r' p q = (p.0 ∙ sym q.0, p.1 ∙ sym q.1)
 
-pub offer_in_place_unique : (before : Station) (size : ℕ) (after after' : Station) (r r' : Offered) →
+pub offer_in_place_unique : (before : Station) (size : ℕ) (after after' : Station) (r r' : Result Unit Refusal) →
     OffersInPlace before size after r → OffersInPlace before size after' r' → (after ≡ after') × (r ≡ r')
 offer_in_place_unique before size after after' r r' p q = (p.0 ∙ sym q.0, p.1 ∙ sym q.1)
 
-pub hear_table_unique : (bytes : List ℕ) (present : ℕ) (draws : List ℕ) (records : List Station) (places : List ℕ) (after after' : List Station) (at at' : List ℕ) (r r' : ℕ) →
+pub hear_table_unique : (bytes : List ℕ) (present : ℕ) (draws : List ℕ) (records : List Station) (places : List ℕ) (after after' : List Station) (at at' : List ℕ) (r r' : Result Unit Reason) →
     HearsTable bytes present draws records places after at r → HearsTable bytes present draws records places after' at' r' → (r ≡ r') × ((after ≡ after') × (at ≡ at'))
 hear_table_unique bytes present draws records places after after' at at' r r' p q = (p.0 ∙ sym q.0, (p.1.0 ∙ sym q.1.0, p.1.1 ∙ sym q.1.1))
 
 pub hear_forty_unique : (bytes : List ℕ) (present : ℕ) (draws : List ℕ) (w : Window) (stations : List Station) (places : List ℕ) (at at' : List ℕ) (r r' : Forty) →
     HearsForty bytes present draws w stations places at r → HearsForty bytes present draws w stations places at' r' → (r ≡ r') × (at ≡ at')
-hear_forty_unique bytes present draws w stations places at at' r r' p q = (λ i. record { code = (p.0 ∙ sym q.0) i; stations = (p.1.0 ∙ sym q.1.0) i }, p.1.1 ∙ sym q.1.1)
+hear_forty_unique bytes present draws w stations places at at' r r' p q = (λ i. record { answer = (p.0 ∙ sym q.0) i; stations = (p.1.0 ∙ sym q.1.0) i }, p.1.1 ∙ sym q.1.1)
 
 -- a contract ensures one predicate of the parameters, the result and the parameters at exit
 module _ {M : Type 1} (𝓤 : Ura M) (T : Ended) where

@@ -19,4 +19,4 @@ module _ (bytes : List ℕ) (present : ℕ) (draws : List ℕ) (w : Window) (sta
   forty_after = take w.from stations ++ (table_of bytes present draws (lent_of w stations) places ++ drop (w.to - w.from) (drop w.from stations))
 
   abbrev pub HearsForty : List ℕ → Forty → Type 0
-  HearsForty places' r = (r.code ≡ answer_of bytes present draws (lent_of w stations) places) × ((r.stations ≡ forty_after) × (places' ≡ places_of bytes present draws (lent_of w stations) places))
+  HearsForty places' r = (r.answer ≡ answer_of bytes present draws (lent_of w stations) places) × ((r.stations ≡ forty_after) × (places' ≡ places_of bytes present draws (lent_of w stations) places))

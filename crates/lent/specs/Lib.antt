@@ -1,4 +1,3 @@
 pub mod InPlace
 pub mod Table
 pub mod Forty
-pub mod Scan

@@ -1,24 +1,26 @@
 -- Document 01: "a lent table of up to 32 station records hears one MAP, record by record, with a lent draw and a lent answer place for each".
-use Rattle.std.specs.Prelude.{ℕ, ◌≡◌, cond, List, [], ◌∷◌, ltb, eqb, length}
-use Rattle.rules.specs.Refusals.{Size, number_of}
+use Rattle.std.specs.Prelude.{ℕ, ◌≡◌, cond, List, [], ◌∷◌, ltb, length, Result, Ok, Err}
+use Rattle.rules.specs.declared.refusal.Reason.{Reason}
+use Rattle.rules.specs.declared.refusal.Reason.TheVariants.{Size}
+use Rattle.rules.specs.declared.refusal.Refusal.{Refusal}
+use Rattle.rules.specs.Refusals.{number_of, changed}
 use Rattle.station.specs.declared.record.Station.{Station}
 use Rattle.hearing.specs.declared.answer.Answer.{Answer}
-use Rattle.hearing.specs.declared.answer.Answer.TheVariants.{Heard, Refused}
 use Rattle.hearing.specs.declared.answer.Hearing.{Hearing}
 use Rattle.hearing.specs.Hearing.{hear_of}
 use Rattle.lent.specs.declared.table.Placed.{Placed}
 
 -- 17: "a table over 32, or fewer draws or places than records"
-unfoldable pub table_fault : ℕ → ℕ → ℕ → ℕ
+unfoldable pub table_fault : ℕ → ℕ → ℕ → Result Unit Reason
 table_fault records draws places =
-    cond (ltb 32 records) (number_of Size)
-    (cond (ltb draws records) (number_of Size)
-    (cond (ltb places records) (number_of Size) 0))
+    cond (ltb 32 records) (Err Size)
+    (cond (ltb draws records) (Err Size)
+    (cond (ltb places records) (Err Size) (Ok tt)))
 
 -- "each record's place takes its refusal number alone, 0 if heard"
-abbrev pub number_in : Answer → ℕ
-number_in (Heard bursts request) = 0
-number_in (Refused why) = why.number
+abbrev pub number_in : Result Answer Refusal → ℕ
+number_in (Ok a) = 0
+number_in (Err why) = number_of why.reason
 
 abbrev pub placed : Hearing → Placed
 placed h = record { station = h.station; number = number_in h.answer }
@@ -41,15 +43,15 @@ module _ (bytes : List ℕ) (present : ℕ) where
 
 -- "The table answers 17 for itself first, changing nothing"
 module _ (bytes : List ℕ) (present : ℕ) (draws : List ℕ) (records : List Station) (places : List ℕ) where
-  abbrev pub answer_of : ℕ
+  abbrev pub answer_of : Result Unit Reason
   answer_of = table_fault (length records) (length draws) (length places)
 
   abbrev pub table_of : List Station
-  table_of = cond (eqb answer_of 0) (records_after bytes present records draws) records
+  table_of = changed answer_of (records_after bytes present records draws) records
 
   abbrev pub places_of : List ℕ
-  places_of = cond (eqb answer_of 0) (places_after bytes present records draws places) places
+  places_of = changed answer_of (places_after bytes present records draws places) places
 
   -- a table heard: its records and places after it, and its answer
-  abbrev pub HearsTable : List Station → List ℕ → ℕ → Type 0
+  abbrev pub HearsTable : List Station → List ℕ → Result Unit Reason → Type 0
   HearsTable records' places' answer = (answer ≡ answer_of) × ((records' ≡ table_of) × (places' ≡ places_of))

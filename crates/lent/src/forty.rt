@@ -3,12 +3,13 @@ ghost use Rattle.std.specs.Prelude.{◌≡◌};
 ghost use Rattle.lent.specs.Forty.{window_of, HearsForty};
 
 use crate::table::hear_table;
+use rules::Reason;
 use slots::MiniSlot;
 use station::Station;
 
 #[derive(Clone, Copy)]
 pub struct Forty {
-    pub code: u32,
+    pub answer: Result<(), Reason>,
     pub stations: [Station; 40],
 }
 
@@ -34,12 +35,6 @@ fn part_of(first: usize, count: usize) -> Window
     }
 }
 
-fn packed(code: u32, stations: [Station; 40]) -> Forty
-    ensures { result ≡ record { code = code; stations = stations } }
-{
-    Forty { code, stations }
-}
-
 pub fn hear_forty(
     stations: [Station; 40],
     first: usize,
@@ -52,9 +47,10 @@ pub fn hear_forty(
     ensures { HearsForty bytes.now present.0 draws.now (window_of first count) stations places.old places.new result }
 {
     let mut all = stations;
-    let w = part_of(first, count);
-    let from = w.from;
-    let to = w.to;
-    let code = hear_table(&mut all[from..to], bytes, present, draws, places);
-    packed(code, all)
+    let Window { from, to } = part_of(first, count);
+    let answer = hear_table(&mut all[from..to], bytes, present, draws, places);
+    Forty {
+        answer,
+        stations: all,
+    }
 }

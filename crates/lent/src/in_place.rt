@@ -2,10 +2,16 @@
 ghost use Rattle.lent.specs.InPlace.{HearsInPlace, OffersInPlace};
 
 use hearing::{Answer, hear};
+use rules::Refusal;
 use slots::MiniSlot;
-use station::{Offered, Station};
+use station::Station;
 
-pub fn hear_in_place(rec: &mut Station, bytes: &[u8], present: MiniSlot, draw: u16) -> Answer
+pub fn hear_in_place(
+    rec: &mut Station,
+    bytes: &[u8],
+    present: MiniSlot,
+    draw: u16,
+) -> Result<Answer, Refusal>
     ensures { HearsInPlace rec.old bytes.now present.0 draw rec.new result }
 {
     let h = hear(*rec, bytes, present, draw);
@@ -13,10 +19,10 @@ pub fn hear_in_place(rec: &mut Station, bytes: &[u8], present: MiniSlot, draw: u
     h.answer
 }
 
-pub fn offer_in_place(rec: &mut Station, size: u32) -> Offered
+pub fn offer_in_place(rec: &mut Station, size: u32) -> Result<(), Refusal>
     ensures { OffersInPlace rec.old size rec.new result }
 {
-    let o = (*rec).offer(size);
+    let o = rec.offer(size);
     *rec = o.station;
     o.answer
 }

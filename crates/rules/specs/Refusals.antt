@@ -40,6 +40,11 @@ module _ {A : Type 0} where
   unless (Ok u) element rest = rest
   unless (Err reason) element rest = Err (refusal reason element)
 
+  -- a refusal "changes" nothing: what there is then, or what there was
+  abbrev pub changed : Result Unit Reason → A → A → A
+  changed (Ok u) after before = after
+  changed (Err reason) after before = before
+
 -- .. or else the second
 abbrev pub then : Result Unit Reason → Result Unit Reason → Result Unit Reason
 then (Ok u) second = second

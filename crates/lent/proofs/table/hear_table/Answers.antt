@@ -1,42 +1,36 @@
-use Rattle.std.proofs.Common.{◌∙◌, ap, length, arith}
+use Rattle.std.proofs.Common.{◌≡◌, ◌-◌, ◌∙◌, arith, sym, refl, length}
 use Rattle.std.proofs.Math.Nat.{sub-zero}
-use Rattle.lent.specs.declared.table.Fit.{Fit}
-use Rattle.lent.proofs.Tabled.{within, fit_code, turn_s, turn_p, ends_s, ends_p}
+use lib.ListN.{length-set}
+use Rattle.std.proofs.lemmas.Result.{err_from_is_err_and}
+use Rattle.lent.proofs.Tabled.{fault_fits, table_refused, turn_s, turn_p, table_heard}
 use Rattle.lent.proofs.table.hear_table.Goals as goal
 
+pub returns-in_err-table_fault : goal.returns-in_err-table_fault
+returns-in_err-table_fault c = let p = err_from_is_err_and c.from_residual.result c.from_residual.ensures.1 in rw (p.1, p.2) (table_refused _ _ _ _ _ _ c.table_fault.ensures _ c.in_err-table_fault.was)
+
 pub loop-i-init : goal.loop-i-init
-loop-i-init c =
-    let f = c.fits-f.ensures in
-    let w = within (length c.args.table.now) (length c.args.draws.now) (length c.args.places.now) in
-    record {
-      inside = omega arith;
-      by_table = rw f w.0;
-      by_draws = rw f w.1.0;
-      by_places = rw f w.1.1;
-      records = rw sub-zero;
-      answers = rw sub-zero;
-    }
+loop-i-init c = record { inside = omega arith; table = refl; answers = refl; records = rw sub-zero; numbers = rw sub-zero }
+
+pub hear_at-h-requires : goal.hear_at-h-requires
+hear_at-h-requires c = let fits = fault_fits _ _ _ (sym c.table_fault.ensures ∙ c.in_ok-table_fault.was) in omega (arith, fits.0, c.loop-i-test.true)
+
+pub bounds-places-i : goal.bounds-places-i
+bounds-places-i c = let fits = fault_fits _ _ _ (sym c.table_fault.ensures ∙ c.in_ok-table_fault.was) in omega (arith, fits.1, c.loop-i-test.true, c.loop-i.invariant.answers)
 
 pub loop-i-preserved : goal.loop-i-preserved
 loop-i-preserved c =
     let l = c.loop-i in
-    let a = c.args in record {
-      inside = omega arith;
-      by_table = l.invariant.by_table;
-      by_draws = l.invariant.by_draws;
-      by_places = l.invariant.by_places;
-      records = turn_s a.bytes.now a.present.0 a.draws.now c.fits-f.result.n l.i l.table c.hear_at-h.result c.loop-i-test.true c.hear_at-h.ensures ∙ l.invariant.records;
-      answers = turn_p a.bytes.now a.present.0 a.draws.now c.fits-f.result.n l.i l.table l.places c.hear_at-h.result c.loop-i-test.true c.hear_at-h.ensures ∙ l.invariant.answers;
+    let a = c.args in
+    let p = c.hear_at-h.result in record {
+      inside = omega (arith, c.loop-i-test.true);
+      table = length-set l.table l.i p.station ∙ l.invariant.table;
+      answers = length-set l.places l.i p.number ∙ l.invariant.answers;
+      records = turn_s a.bytes.now a.present.0 a.draws.now (length a.table.now) l.i l.table p c.loop-i-test.true c.hear_at-h.ensures ∙ l.invariant.records;
+      numbers = turn_p a.bytes.now a.present.0 a.draws.now (length a.table.now) l.i l.table l.places p c.loop-i-test.true c.hear_at-h.ensures ∙ l.invariant.numbers;
     }
 
 pub returns : goal.returns
 returns c =
     let l = c.loop-i in
-    let a = c.args in
-    let code = ap (λ (f : Fit). f.code) c.fits-f.ensures ∙ fit_code (length a.table.now) (length a.draws.now) (length a.places.now) in (
-      code,
-      (
-        ends_s a.bytes.now a.present.0 a.draws.now a.table.now a.places.now c.fits-f.result c.fits-f.ensures l.i c.loop-i-test.false l.table l.invariant.records,
-        ends_p a.bytes.now a.present.0 a.draws.now a.table.now a.places.now c.fits-f.result c.fits-f.ensures l.i c.loop-i-test.false l.table l.places l.invariant.answers,
-      ),
-    )
+    let none : length c.args.table.now - l.i ≡ 0 = omega (arith, c.loop-i-test.false) in
+    table_heard _ _ _ _ _ _ c.table_fault.ensures c.in_ok-table_fault.was _ _ (rw none at l.invariant.records) (rw none at l.invariant.numbers)

@@ -1,5 +1,5 @@
 use Rattle.lent.proofs.Tabled.{fitting}
-use Rattle.lent.proofs.table.fits.Goals as goal
+use Rattle.lent.proofs.table.table_fault.Goals as goal
 
 pub returns-then-records-gt-LARGEST_TABLE : goal.returns-then-records-gt-LARGEST_TABLE
 returns-then-records-gt-LARGEST_TABLE c = search fitting
