@@ -5,7 +5,7 @@ use mathlib.Core.List.{List, [], ◌∷◌, ◌++◌, map, map-append}
 use Prim.Native.Nat.{ℕ, zero, suc, ◌+◌, ◌-◌, ◌*◌, ◌/◌, ◌≤◌, ◌<◌}
 use native.Mathlib.Nat.{sub-zero, add-zero, zero-mul, suc-mul, div-zero, div-mul-le_self, mul-le-mul_right}
 use native.Mathlib.Omega.{arith}
-use lib.Dec.{leb, ltb, eqb}
+use lib.Dec.{ltb, eqb}
 use lib.ListN.{length, length-append}
 use borrow.Author.Tests.{lt-ltb, le-ltb, le-leb, lt-leb, eq-eqb, ne_eqb, not-true, not-false, eqb-true, ltb-true, ltb-false}
 use Rattle.std.specs.List.{list_any, range_with_len}
@@ -295,20 +295,17 @@ module _ (r sid iuc : ℕ) where
   unfolding apart
   step_other h k = rw (ne_eqb iuc 1 h, ne_eqb iuc 2 k) refl
 
-  pub step_below : iuc ≡ 2 → sid < 0x3FF1 → 0 ≡ apart r sid iuc
-  unfolding apart
-  step_below h k = rw (h, lt-leb 0x3FF1 sid k) refl
+  module _ (h : iuc ≡ 2) (w : Bool) (is : w ≡ within 0x3FF1 0x3FFE sid) where
+    pub step_outside : w ≡ false → 0 ≡ apart r sid iuc
+    unfolding apart
+    step_outside k = rw (h, ← is, k) refl
 
-  pub step_above : iuc ≡ 2 → 0x3FFE < sid → 0 ≡ apart r sid iuc
-  unfolding apart
-  step_above h k = rw (h, lt-leb sid 0x3FFE k, and_none (leb 0x3FF1 sid)) refl
+    pub step_small : w ≡ true → sid - 0x3FF0 < r → 0 ≡ apart r sid iuc
+    unfolding apart
+    step_small k m = rw (h, ← is, k, lt-ltb (sid - 0x3FF0) r m) refl
 
-  pub step_small : iuc ≡ 2 → 0x3FF1 ≤ sid → sid ≤ 0x3FFE → sid - 0x3FF0 < r → 0 ≡ apart r sid iuc
-  unfolding apart
-  step_small h k l m = rw (h, le-leb 0x3FF1 sid k, le-leb sid 0x3FFE l, lt-ltb (sid - 0x3FF0) r m) refl
+    pub step_data : w ≡ true → r ≤ sid - 0x3FF0 → sid - 0x3FF0 ≡ apart r sid iuc
+    unfolding apart
+    step_data k m = rw (h, ← is, k, le-ltb (sid - 0x3FF0) r m) refl
 
-  pub step_data : iuc ≡ 2 → 0x3FF1 ≤ sid → sid ≤ 0x3FFE → r ≤ sid - 0x3FF0 → sid - 0x3FF0 ≡ apart r sid iuc
-  unfolding apart
-  step_data h k l m = rw (h, le-leb 0x3FF1 sid k, le-leb sid 0x3FFE l, le-ltb (sid - 0x3FF0) r m) refl
-
-pub ruleset scan_ways = (said, said_not, not-true, first_nothing, first_before, noted_burst, noted_nothing, noted_own, step_broadcast, step_request, step_other, step_below, step_above, step_small, step_data)
+pub ruleset scan_ways = (said, said_not, not-true, first_nothing, first_before, noted_burst, noted_nothing, noted_own, step_broadcast, step_request, step_other, step_outside, step_small, step_data)

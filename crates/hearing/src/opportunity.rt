@@ -9,7 +9,7 @@ ghost use Rattle.hearing.specs.Opportunities.{contention};
 ghost use Rattle.hearing.specs.Scan.{first_of, grants, found_in, waiting_with, apart, passed_by};
 
 use crate::map::Map;
-use rules::{Element, granting};
+use rules::{Element, granting, within};
 use slots::MiniSlot;
 use station::Phase;
 use std::ops::ControlFlow;
@@ -62,25 +62,11 @@ fn granted_to(e: Element, sid: u32) -> bool
 fn step_of(e: Element, r: u32) -> u32
     ensures { result ≡ apart r e.sid e.iuc }
 {
-    if e.iuc == 1 {
-        if e.sid == BROADCAST {
-            return r;
-        }
-        return 0;
+    match e.iuc {
+        1 if e.sid == BROADCAST => r,
+        2 if within(0x3FF1, 0x3FFE, e.sid) && r <= e.sid - 0x3FF0 => e.sid - 0x3FF0,
+        _ => 0,
     }
-    if e.iuc != 2 {
-        return 0;
-    }
-    if e.sid < 0x3FF1 {
-        return 0;
-    }
-    if 0x3FFE < e.sid {
-        return 0;
-    }
-    if e.sid - 0x3FF0 < r {
-        return 0;
-    }
-    e.sid - 0x3FF0
 }
 
 impl Map<'_> {

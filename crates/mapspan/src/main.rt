@@ -16,11 +16,7 @@ fn told(rt: &HostRuntime, input: &[u8]) {
                 &out[..length],
             );
         }
-        Err(_) => stream::complain(
-            &mut rt.stderr(),
-            b"mapspan",
-            b"no room for the report",
-        ),
+        Err(_) => stream::complain(&mut rt.stderr(), b"mapspan", b"no room for the report"),
     }
 }
 
