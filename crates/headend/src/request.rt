@@ -1,11 +1,10 @@
 // A request taken.
-ghost use Rattle.std.specs.Prelude.{◌≡◌, not, ◌<◌, eqb};
+ghost use Rattle.std.specs.Prelude.{◌≡◌, ◌<◌, eqb};
 ghost use Rattle.std.specs.List.{list_any};
-ghost use Rattle.slots.specs.Time.{earlier};
 ghost use Rattle.headend.specs.Records.{request_fault, joined, request_of};
 
 use crate::record::{Headend, Request, Taken, Taking, with_places};
-use crate::setup::{outside, record_fault};
+use crate::setup::record_fault;
 use rules::Refusal;
 use slots::MiniSlot;
 
@@ -15,12 +14,6 @@ fn any_of(sid: u32, held: &[Request]) -> bool
     held.iter().any(|q| q.sid == sid)
 }
 
-fn not_earlier(time: MiniSlot, other: MiniSlot) -> bool
-    ensures { result ≡ not (earlier 32 time.0 other.0) }
-{
-    !time.earlier(other)
-}
-
 fn request_fault(h: Headend, q: Request) -> u32
     ensures { result ≡ request_fault h q }
 {
@@ -28,16 +21,16 @@ fn request_fault(h: Headend, q: Request) -> u32
     if number != 0 {
         return number;
     }
-    if outside(0x0001, 0x1FFF, q.sid) {
+    if q.bad_sid() {
         return Refusal::SID;
     }
-    if outside(1, Headend::LONGEST_GRANT, q.size) {
+    if q.bad_size() {
         return Refusal::SIZE;
     }
     if q.first.earlier(h.ack) {
         return Refusal::PASSED;
     }
-    if not_earlier(q.first, h.next) {
+    if !q.first.earlier(h.next) {
         return Refusal::UNANNOUNCED;
     }
     if any_of(q.sid, h.held_requests()) {

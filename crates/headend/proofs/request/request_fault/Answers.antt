@@ -4,17 +4,17 @@ use Rattle.headend.proofs.request.request_fault.Goals as goal
 pub returns-then-number-ne0 : goal.returns-then-number-ne0
 returns-then-number-ne0 c = search request_ways
 
-pub returns-then-outside : goal.returns-then-outside
-returns-then-outside c = search request_ways
+pub returns-then-bad_sid : goal.returns-then-bad_sid
+returns-then-bad_sid c = search request_ways
 
-pub returns-then-outside-2 : goal.returns-then-outside-2
-returns-then-outside-2 c = search request_ways
+pub returns-then-bad_size : goal.returns-then-bad_size
+returns-then-bad_size c = search request_ways
 
 pub returns-then-earlier : goal.returns-then-earlier
 returns-then-earlier c = search request_ways
 
-pub returns-then-not_earlier : goal.returns-then-not_earlier
-returns-then-not_earlier c = search request_ways
+pub returns-then-not-earlier : goal.returns-then-not-earlier
+returns-then-not-earlier c = search request_ways
 
 pub returns-then-any_of : goal.returns-then-any_of
 returns-then-any_of c = search request_ways
