@@ -27,4 +27,4 @@ record_fault_unique κs a r r' s s' p q = p ∙ sym q
 
 -- a slice is one by its content; that it lies in the lent record its lifetime says
 pub held_requests_unique : (κs : Lifetimes.Lfts 1) (a : World.ArgsD held-requests'.signature κs) (r r' : World.ResD held-requests'.signature κs) (s s' : Clauses.AtExit (Kinds'.ended_of 1 held_requests_kinds.ps held_requests_kinds.r) κs) → held-requests.Post κs a r s → held-requests.Post κs a r' s' → r.now ≡ r'.now
-held_requests_unique κs a r r' s s' p q = p ∙ sym q
+held_requests_unique κs a r r' s s' p q = p.0 ∙ sym q.0

@@ -1,11 +1,10 @@
 -- How the code goes through the held requests; no public promise cites these.
-use Rattle.std.specs.Prelude.{ℕ, Bool, cond, not, List, eqb, take, drop}
+use Rattle.std.specs.Prelude.{ℕ, Bool, cond, not, List, eqb}
 use Rattle.rules.specs.Refusals.{Room, Ack, Plan, number_of}
 use Rattle.message.specs.Reading.{read_of}
 use Rattle.writer.specs.Writing.{message_of, onto}
 use Rattle.headend.specs.declared.record.Headend.{Headend}
 use Rattle.headend.specs.declared.record.Request.{Request}
-use Rattle.headend.specs.Requests.{held_of}
 use Rattle.issuing.specs.Plan.{elements_of}
 use Rattle.issuing.specs.Issue.{plan_fields, refuses}
 
@@ -13,16 +12,9 @@ use Rattle.issuing.specs.Issue.{plan_fields, refuses}
 unfoldable pub first_fault : ℕ → Bool → Bool → Bool → ℕ
 first_fault number ack plan room = cond (not (eqb number 0)) number (cond ack (number_of Ack) (cond plan (number_of Plan) (cond room (number_of Room) 0)))
 
--- the first g requests held, and the others
-abbrev pub first_held : Headend → ℕ → List Request
-first_held h g = take g (held_of h)
-
-abbrev pub after_first : Headend → ℕ → List Request
-after_first h g = drop g (held_of h)
-
--- the MAP in which the first g requests are granted
-abbrev pub message_by : Headend → ℕ → ℕ → ℕ → List ℕ
-message_by h ack c g = message_of (plan_fields h ack) (elements_of h.short c (first_held h g) (after_first h g))
+-- the MAP in which these requests are granted, and those left pending
+abbrev pub message_by : Headend → ℕ → ℕ → List Request → List Request → List ℕ
+message_by h ack c gs ps = message_of (plan_fields h ack) (elements_of h.short c gs ps)
 
 -- what lent bytes hold once a message was copied into them that the reader accepts, or not copied
 abbrev pub accepted_into : List ℕ → List ℕ → List ℕ
