@@ -10,13 +10,9 @@ use lib.Seq.{take_at}
 use Rattle.std.proofs.lemmas.List.{drop-replicate}
 use borrow.Author.Tests.{eq-eqb, ne_eqb, ltb-false, eqb-false, le-leb}
 use Rattle.slots.specs.declared.time.MiniSlot.{MiniSlot}
-use Rattle.slots.specs.Time.{ahead, moved_on}
+use Rattle.slots.specs.Time.{moved_on}
 use Rattle.rules.specs.declared.element.Element.{Element}
 use Rattle.rules.specs.declared.fields.Fields.{Fields}
-use Rattle.message.specs.declared.reading.Verdict.{Verdict}
-use Rattle.message.specs.declared.reading.Verdict.TheVariants as verdict
-use Rattle.message.specs.declared.reading.Reading.{Reading}
-use Rattle.rules.specs.declared.refusal.Refusal.{Refusal}
 use Rattle.message.specs.Reading.{read_of}
 use Rattle.writer.specs.Writing.{message_of, laid_out}
 use Rattle.writer.proofs.Stores.{length_message}
@@ -34,9 +30,6 @@ use Rattle.issuing.specs.Issue.{granted_in, pending_in, plan_of, plan_message, b
 use Rattle.issuing.specs.Scan.{first_fault, message_by, accepted_into}
 use Rattle.issuing.proofs.Held.{total_granted, length_granted}
 use Rattle.issuing.proofs.Planned.{plan_length}
-
-pub ack_compared : (old next new a b : ℕ) → a ≡ ahead 32 old next → b ≡ ahead 32 old new → ltb a b ≡ ltb (ahead 32 old next) (ahead 32 old new)
-ack_compared old next new a b p q = rw (p, q) refl
 
 module _ (k : ℕ) (a p r : Bool) where
   pub fault_record : (k ≡ 0 → ⊥) → k ≡ first_fault k a p r
@@ -67,13 +60,6 @@ pub ruleset fault_ways = (fault_record, fault_ack, fault_plan, fault_room, fault
 pub call_fault_is : (h : Headend) (ack c budget room k : ℕ) (a p : Bool) (n : ℕ) → k ≡ record_fault h → a ≡ bad_ack h ack → p ≡ bad_plan c budget → n ≡ first_fault k a p (ltb room (24 + 4 * h.held)) → n ≡ call_fault h ack c budget room
 unfolding call_fault first_fault
 call_fault_is h ack c budget room k a p n d e f is = rw (← d, ← e, ← f) is
-
-module _ (s : List ℕ) (v : Verdict) (is : v ≡ read_of s) where
-  pub refuses_none : (r : Reading) → v ≡ verdict.Accepted r → false ≡ refuses (read_of s)
-  refuses_none r e = rw (← is, e) refl
-
-  pub refuses_some : (why : Refusal) → v ≡ verdict.Refused why → true ≡ refuses (read_of s)
-  refuses_some why e = rw (← is, e) refl
 
 -- requests in the first of 64 spare places
 pub placed : (qs : List Request) (out : List Request) → length qs ≤ 64 → out ≡ qs ++ drop (length qs) (replicate 64 spare) → out ≡ places_of qs
@@ -160,14 +146,6 @@ module _ (h : Headend) (c budget : ℕ) (gs ps : List Request) (t : ℕ) (grante
   pub issued_by_lem : (ack : ℕ) → moved_to h ack (c + t) ps ≡ issued_from h ack c budget
   unfolding issued_from plan_of
   issued_by_lem ack = rw (plan_length h.short c (granted_in h c budget) (pending_in h c budget), ← total', pending') refl
-
--- 24, and what the lent bytes hold then
-module _ (own old : List ℕ) (b : Bool) (is : b ≡ refuses (read_of own)) where
-  pub check_refused : b ≡ true → (true ≡ refuses (read_of own)) × (old ≡ accepted_into own old)
-  check_refused e = let it = sym is ∙ e in (sym it, rw it refl)
-
-  pub check_accepted : (new : List ℕ) → b ≡ false → new ≡ own ++ drop (length own) old → (false ≡ refuses (read_of own)) × (new ≡ accepted_into own old)
-  check_accepted new e p = let it = sym is ∙ e in (sym it, rw it p)
 
 -- what `issue` answers, and what the lent bytes hold then
 module _ (h : Headend) (ack c budget : ℕ) (old : List ℕ) (k : ℕ) (is : k ≡ call_fault h ack c budget (length old)) where

@@ -1,12 +1,10 @@
 -- The plan: its grants counted, and its elements stored one after the other.
 use mathlib.Core.Path.{◌≡◌, refl, sym, ◌∙◌, ap}
-use mathlib.Core.Bool.{cond}
 use mathlib.Core.List.{List, [], ◌∷◌, ◌++◌, append_assoc, append-nil}
 use Prim.Native.Nat.{ℕ, suc, ◌+◌, ◌-◌, ◌≤◌, ◌<◌}
 use native.Mathlib.Omega.{arith}
 use native.Mathlib.Numerals.{add-one}
 use native.Mathlib.Nat.{zero-add, add-zero, add_assoc}
-use lib.Dec.{leb}
 use lib.ListN.{length, take, drop, get_or, set, length-append, take-append-drop}
 use lib.Seq.{drop-cons, drop-length, take_at, set_at, take-length, length-take-le}
 use borrow.Author.Tests.{le-leb, lt-leb}
@@ -16,14 +14,6 @@ use Rattle.headend.specs.declared.record.Request.{Request}
 use Rattle.headend.specs.Requests.{spare}
 use Rattle.issuing.specs.Plan.{granted, total, use_of, grants, pendings, elements_of}
 use Rattle.issuing.proofs.Planned.{null, length_grants, length_pendings}
-
-pub use_short : (size short : ℕ) → size ≤ short → ◌≡◌ {A = ℕ} 5 (cond (leb size short) 5 6)
-use_short size short h = rw (le-leb size short h) refl
-
-pub use_long : (size short : ℕ) → short < size → ◌≡◌ {A = ℕ} 6 (cond (leb size short) 5 6)
-use_long size short h = rw (lt-leb size short h) refl
-
-pub ruleset uses = (use_short, use_long)
 
 -- what is left of the count gives the count of the whole
 module _ (held : List Request) (room : ℕ) where

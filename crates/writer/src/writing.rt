@@ -12,7 +12,8 @@ pub enum Written {
     Refused(Refusal),
 }
 
-// The reader's own walk, over the elements to be written.
+// The reader's own walk, over the elements to be written. Document 01's "Forms by place": the loop yields
+// the first fault with its element by break, which a `for` cannot.
 fn walk(elements: &[Element]) -> Walked
     requires { length elements.now ≤ 240 }
     ensures { result ≡ walked 0 nothing_yet elements.now }
