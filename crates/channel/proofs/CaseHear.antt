@@ -13,7 +13,7 @@ use Rattle.station.specs.declared.record.Station.{Station}
 use Rattle.hearing.specs.Hearing.{phase_after, request_in}
 use Rattle.hearing.proofs.Heard.{Outcome}
 use Rattle.hearing.proofs.Heard.Outcome.{silent, spoke}
-use Rattle.headend.specs.Requests.{Request}
+use Rattle.headend.specs.declared.record.Request.{Request}
 use Rattle.channel.specs.History.{Issue, map_in}
 use Rattle.channel.proofs.Timing.{at, earlier_at}
 use Rattle.channel.proofs.Keeping.{keep_head, and_right}
@@ -27,8 +27,8 @@ module _ (B : ℕ) (st : Station) (j : Issue) (draw N a : ℕ) (h F : List Reque
     (ch : Chained B N js) (small : N < 2147483648) (mem : Memᴰ j js) (fresh : heard_to B st ≤ start_of B j)
     (older : at B j.ack ≤ a) (early : at B j.ack ≤ start_of B j) (told : Contents j) (single : eqb 0x3FFF st.sid ≡ false) (asks : 1 ≤ st.r) where
   -- the Ack Time is not later than q
-  pub not_lost : (q : Request) → at B q.first < N → at B j.ack ≤ at B q.first → earlier 32 q.first j.ack ≡ false
-  not_lost q b k = let r = chain_below B N js ch j mem in earlier_at B q.first j.ack (omega arith) (omega arith) ∙ le-ltb _ _ k
+  pub not_lost : (q : Request) → at B q.first.0 < N → at B j.ack ≤ at B q.first.0 → earlier 32 q.first.0 j.ack ≡ false
+  not_lost q b k = let r = chain_below B N js ch j mem in earlier_at B q.first.0 j.ack (omega arith) (omega arith) ∙ le-ltb _ _ k
 
   in_time : start_of B j < N
   in_time = let r = chain_below B N js ch j mem in omega arith
@@ -37,9 +37,9 @@ module _ (B : ℕ) (st : Station) (j : Issue) (draw N a : ℕ) (h F : List Reque
   After = Case B st.sid (phase_after st (map_in j) draw) (end_of B j) N h (live B st.sid a (sent_on st (map_in j) draw ++ F)) js
 
   -- a MAP that carries q leaves the station that waits on it as it was
-  pub still_waits : (q : Request) (d exponent retries : ℕ) → st.phase ≡ Waiting exponent retries (record { 0 = q.first }) q.size → at B q.first < N → Carried B st.sid q d j → Unmoved st (map_in j) draw exponent retries (record { 0 = q.first }) q.size
-  still_waits q d exponent retries w b (inl (_, c, k)) = heard_early st j draw told exponent retries (record { 0 = q.first }) q.size w c.0 (not_lost q b k)
-  still_waits q d exponent retries w b (inr (_, c)) = heard_pending st j draw told exponent retries (record { 0 = q.first }) q.size q w c
+  pub still_waits : (q : Request) (d exponent retries : ℕ) → st.phase ≡ Waiting exponent retries q.first q.size → at B q.first.0 < N → Carried B st.sid q d j → Unmoved st (map_in j) draw exponent retries q.first q.size
+  still_waits q d exponent retries w b (inl (_, c, k)) = heard_early st j draw told exponent retries q.first q.size w c.0 (not_lost q b k)
+  still_waits q d exponent retries w b (inr (_, c)) = heard_pending st j draw told exponent retries q.first q.size q w c
 
   -- nothing of σ's in the MAP, and nothing under way
   clear_after : h ≡ [] → live B st.sid a F ≡ [] → Clear st.sid j → Window B (Clear st.sid) (end_of B j) N js → After
@@ -50,7 +50,7 @@ module _ (B : ℕ) (st : Station) (j : Issue) (draw N a : ℕ) (h F : List Reque
       go (spoke exponent retries time size e s m) = rw (sent_one st (map_in j) draw exponent retries time size e s, eq-eqb st.sid st.sid refl) (go2 (leb a (at B time.0)))
         where
           asked : Request
-          asked = record { sid = st.sid; size = size; first = time.0 }
+          asked = record { sid = st.sid; size = size; first = time }
 
           go2 : (b : Bool) → Case B st.sid (phase_after st (map_in j) draw) (end_of B j) N h (cond b (asked ∷ live B st.sid a F) (live B st.sid a F)) js
           go2 true =
@@ -62,8 +62,8 @@ module _ (B : ℕ) (st : Station) (j : Issue) (draw N a : ℕ) (h F : List Reque
   pub case_hear : Case B st.sid st.phase (heard_to B st) N h (live B st.sid a F) js → After
   case_hear (quiet hh lf c) = clear_after hh lf (c j mem fresh in_time) (λ k m lo hi. c k m (omega arith) hi)
   case_hear (flying q (x, r, w) hh lf b d) =
-      let p = leb-true a (at B q.first) (and_right (eqb q.sid st.sid) _ (keep_head _ F q [] lf)) in
-      let s = heard_early st j draw told x r (record { 0 = q.first }) q.size w (d j mem fresh in_time).0 (not_lost q b (omega arith)) in
+      let p = leb-true a (at B q.first.0) (and_right (eqb q.sid st.sid) _ (keep_head _ F q [] lf)) in
+      let s = heard_early st j draw told x r q.first q.size w (d j mem fresh in_time).0 (not_lost q b (omega arith)) in
       flying q (x, r, s.0) hh (rw (sent_none st (map_in j) draw s.1) lf) b (λ k m lo hi. d k m (omega arith) hi)
   case_hear (held q d (x, r, w) hh lf b l win) =
       let s = still_waits q d x r w b (win j mem fresh in_time) in

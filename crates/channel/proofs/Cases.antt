@@ -6,7 +6,7 @@ use Prim.Native.Nat.{ℕ, ◌≤◌, ◌<◌}
 use native.Mathlib.Omega.{arith}
 use Rattle.station.specs.declared.record.Phase.{Phase}
 use Rattle.station.specs.declared.record.Phase.TheVariants.{Idle}
-use Rattle.headend.specs.Requests.{Request}
+use Rattle.headend.specs.declared.record.Request.{Request}
 use Rattle.channel.specs.History.{Issue}
 use Rattle.channel.proofs.Timing.{at}
 use Rattle.channel.proofs.Keeping.{append_none, append_one, each_cons}
@@ -39,7 +39,7 @@ module _ (B σ : ℕ) (p : Phase) (e N : ℕ) (h f : List Request) (js : List Is
   case_lose f' none one (granted q d g w a b c m k l n x y) = granted q d g w a (none b) c m k l n x y
 
   -- the headend takes the one that was flying
-  pub case_taken : (q' : Request) (f' : List Request) → (f ≡ [] → ⊥) → ((q : Request) → f ≡ q ∷ [] → (q' ≡ q) × (f' ≡ [])) → ((j : Issue) → Memᴰ j js → at B j.ack ≤ at B q'.first) →
+  pub case_taken : (q' : Request) (f' : List Request) → (f ≡ [] → ⊥) → ((q : Request) → f ≡ q ∷ [] → (q' ≡ q) × (f' ≡ [])) → ((j : Issue) → Memᴰ j js → at B j.ack ≤ at B q'.first.0) →
       Case B σ p e N h f js → Case B σ p e N (h ++ (q' ∷ [])) f' js
   case_taken q' f' none one acks (quiet a b c) = absurd (none b)
   case_taken q' f' none one acks (flying q w a b c d) = let r = one q b in held q N w (rw a (ap (λ z. z ∷ []) r.0)) r.1 c (omega arith)

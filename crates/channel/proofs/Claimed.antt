@@ -13,7 +13,8 @@ use Rattle.station.specs.declared.record.Station.{Station}
 use Rattle.hearing.specs.declared.answer.Answer.TheVariants as answer
 use Rattle.hearing.specs.declared.answer.Sent.{Sent}
 use Rattle.hearing.specs.Hearing.{hear_of}
-use Rattle.headend.specs.Requests.{Request, held_of}
+use Rattle.headend.specs.declared.record.Request.{Request}
+use Rattle.headend.specs.Requests.{held_of}
 use Rattle.channel.specs.History.{Issue, bytes_of, map_in, State, nobody, station_at}
 use Rattle.channel.specs.Claims.{HeldWaits, WaitingHeld}
 use Rattle.channel.proofs.Keeping.{clash, and_left, and_right}
@@ -37,11 +38,11 @@ unawaited_at t (st ∷ sts) zero e = and_left (elsewhere t st.phase) (unawaited 
 unawaited_at t (st ∷ sts) (suc i) e = unawaited_at t sts i (and_right (elsewhere t st.phase) (unawaited t sts) e)
 
 -- (b) fails: a request is held, and nobody waits on it
-pub held_alone : (s : State) (q : Request) → held_of s.headend ≡ q ∷ [] → unawaited q.first s.stations ≡ true → HeldWaits s → ⊥
+pub held_alone : (s : State) (q : Request) → held_of s.headend ≡ q ∷ [] → unawaited q.first.0 s.stations ≡ true → HeldWaits s → ⊥
 held_alone s q e u claim = go (claim q (rw e (Memᴰ.head refl)))
   where
-    go : (i : ℕ) × (i < length s.stations) × ((station_at s i).sid ≡ q.sid) × ((exponent : ℕ) × (retries : ℕ) × ((station_at s i).phase ≡ Waiting exponent retries (record { 0 = q.first }) q.size)) → ⊥
-    go (i, h, f, (x, r, w)) = clash (elsewhere q.first (station_at s i).phase) (unawaited_at q.first s.stations i u) (ap (elsewhere q.first) w ∙ ap not (eq-eqb q.first q.first refl))
+    go : (i : ℕ) × (i < length s.stations) × ((station_at s i).sid ≡ q.sid) × ((exponent : ℕ) × (retries : ℕ) × ((station_at s i).phase ≡ Waiting exponent retries q.first q.size)) → ⊥
+    go (i, h, f, (x, r, w)) = clash (elsewhere q.first.0 (station_at s i).phase) (unawaited_at q.first.0 s.stations i u) (ap (elsewhere q.first.0) w ∙ ap not (eq-eqb q.first.0 q.first.0 refl))
 
 -- what (c) asks: station i accepts MAP j, and then still waits on its request q, which is earlier than the Ack Time
 pub record Outlasts (s : State) (i : ℕ) (j : Issue) (q : Request) : Type 0 where
@@ -54,13 +55,13 @@ pub record Outlasts (s : State) (i : ℕ) (j : Issue) (q : Request) : Type 0 whe
   pub inside : i < length s.stations
   pub issued : Memᴰ j s.issues
   pub accepts : (hear_of (station_at s i) (bytes_of j) present draw).answer ≡ answer.Heard bursts request
-  pub waits : (hear_of (station_at s i) (bytes_of j) present draw).station.phase ≡ Waiting exponent retries (record { 0 = q.first }) q.size
-  pub passed : earlier 32 q.first (map_in j).fields.ack.0 ≡ true
+  pub waits : (hear_of (station_at s i) (bytes_of j) present draw).station.phase ≡ Waiting exponent retries q.first q.size
+  pub passed : earlier 32 q.first.0 (map_in j).fields.ack.0 ≡ true
   pub its : q.sid ≡ (station_at s i).sid
 
 -- .. and what it answers: that very request was held when that MAP was issued
 pub was_held : (s : State) (i : ℕ) (j : Issue) (q : Request) → WaitingHeld s → Outlasts s i j q → Memᴰ q (held_of j.before)
-was_held s i j q claim o = go (claim i o.inside j o.issued o.present o.draw o.bursts o.request o.accepts o.exponent o.retries q.size (record { 0 = q.first }) o.waits o.passed)
+was_held s i j q claim o = go (claim i o.inside j o.issued o.present o.draw o.bursts o.request o.accepts o.exponent o.retries q.size q.first o.waits o.passed)
   where
     go : (p : Request) × Memᴰ p (held_of j.before) × (p.sid ≡ (station_at s i).sid) × (p.size ≡ q.size) × (p.first ≡ q.first) → Memᴰ q (held_of j.before)
     go (p, m, a, b, c) =

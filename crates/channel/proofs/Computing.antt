@@ -22,5 +22,5 @@ use Rattle.issuing.specs.Issue.{plan_of, call_fault, issue_fault, moved_to, issu
 use Rattle.channel.specs.History.{step, after, spent}
 
 unfoldable pub rules : Unit {0}
-unfolding ahead earlier sid_allowed bad_backoffs misordered misplaced fault_of advanced ended_at walked listed word_at fields_of intervals map_length after_null grants_to pendings_to header_fault read_of writing.bytes_of writing.header_of writing.elements_of writing.message_of station.bad_phase station.record_fault offering.idle offering.offer_fault offering.offer_of lost acknowledged deferred spaced contention_in own_in contention own granted passing offered_own sending waiting_since sent_by stale hear_fault ready_phase quiet_phase phase_after request_in station_after hearing hear_of held_of records.with_places records.any records.record_fault records.request_fault records.joined records.request_of plan.granted plan.pending plan.total plan.grants plan.pendings plan.elements_of plan_of call_fault issue_fault moved_to issued_from issue_of step after spent
+unfolding ahead earlier sid_allowed bad_backoffs misordered misplaced fault_of advanced ended_at walked listed word_at fields_of intervals map_length after_null grants_to pendings_to header_fault read_of writing.bytes_of writing.header_of writing.elements_of writing.message_of station.bad_phase station.record_fault offering.idle offering.offer_fault offering.offer_of lost acknowledged deferred spaced contention_in own_in contention own granted passing offered_own sending waiting_since sent_by stale hear_fault ready_phase quiet_phase phase_after request_in station_after hearing hear_of held_of records.with_places records.record_fault records.request_fault records.joined records.request_of plan.granted plan.pending plan.total plan.grants plan.pendings plan.elements_of plan_of call_fault issue_fault moved_to issued_from issue_of step after spent
 rules = tt

@@ -10,7 +10,8 @@ use Rattle.message.specs.Lists.{is_empty, gather}
 use Rattle.rules.specs.Rules.{granting}
 use Rattle.message.specs.Map.{Map, Interval, intervals, map_length, grants_to, pendings_to}
 use Rattle.headend.specs.declared.record.Headend.{Headend}
-use Rattle.headend.specs.Requests.{Request, held_of}
+use Rattle.headend.specs.declared.record.Request.{Request}
+use Rattle.headend.specs.Requests.{held_of}
 use Rattle.headend.proofs.Checks.{handed_on}
 use Rattle.issuing.specs.Plan.{total}
 use Rattle.issuing.specs.Issue.{granted_in, pending_in, plan_of, call_fault, issue_fault, issued_from}

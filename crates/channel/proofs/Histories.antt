@@ -14,7 +14,8 @@ use Rattle.message.specs.Map.{end_of}
 use Rattle.station.specs.declared.record.Phase.TheVariants.{Idle, Waiting}
 use Rattle.station.specs.Offering as offering
 use Rattle.hearing.specs.declared.answer.Sent.TheVariants as sent
-use Rattle.headend.specs.Requests.{Request, held_of}
+use Rattle.headend.specs.declared.record.Request.{Request}
+use Rattle.headend.specs.Requests.{held_of}
 use Rattle.headend.specs.Records as records
 use Rattle.issuing.specs.declared.issuing.Issued.TheVariants as issued
 use Rattle.channel.specs.History.{Issue, map_in, Sending, State, station_at, Event, Offer, Issue', Hear, Deliver, Lose, asked, issuing, step, after}
@@ -40,7 +41,7 @@ abbrev pub start : State
 start = start_at 4294967290
 
 abbrev pub request : ℕ → ℕ → ℕ → Request
-request sid size first = record { sid = sid; size = size; first = first }
+request sid size first = record { sid = sid; size = size; first = record { 0 = first } }
 
 abbrev pub sends : ℕ → ℕ → ℕ → Sending
 sends sid first size = record { sid = sid; first = first; size = size }
@@ -111,7 +112,7 @@ unfolding records.set_up_of offering.set_up_of
 fresh_start next clock = record {
   channel = 1;
   count = 2;
-  headend = record { next = record { 0 = next }; ranging = record { start = 0; end = 4 }; data_backoff = record { start = 0; end = 4 }; short = 100; set_up = refl; is = refl; clock = clock };
+  headend = record { next = record { 0 = next }; ranging = record { start = 0; end = 4 }; data_backoff = record { start = 0; end = 4 }; short = 100; set_up = refl; clock = clock };
   stations = set_up;
   different = different;
   none_issued = refl;

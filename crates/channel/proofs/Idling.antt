@@ -9,6 +9,7 @@ use borrow.Author.Tests.{le-ltb}
 use Rattle.slots.specs.Time.{ahead}
 use Rattle.slots.proofs.Rolling.{ahead_self}
 use Rattle.headend.specs.declared.record.Headend.{Headend}
+use Rattle.headend.specs.Requests.{spare}
 use Rattle.headend.specs.Records.{with_places}
 use Rattle.issuing.specs.declared.issuing.Issued.TheVariants as issued
 use Rattle.issuing.specs.Issue.{issue_of}
@@ -18,7 +19,7 @@ use Rattle.channel.proofs.Histories.{start_at, issue}
 
 -- the headend of the histories, holding nothing, once these are its next start and Ack Time
 abbrev pub idle : ℕ → ℕ → Headend
-idle next ack = with_places (start_at 0).headend (record { 0 = next }) (record { 0 = ack }) 0 (replicate 64 0) (replicate 64 0) (replicate 64 0)
+idle next ack = with_places (start_at 0).headend (record { 0 = next }) (record { 0 = ack }) 0 (replicate 64 spare)
 
 module _ (ack : ℕ) where
   -- the MAP that it issues at a next start

@@ -14,7 +14,8 @@ use Rattle.station.specs.declared.record.Phase.TheVariants.{Waiting}
 use Rattle.station.specs.declared.record.Remembered.{Remembered}
 use Rattle.station.specs.declared.record.Remembered.TheVariants.{Nothing, End}
 use Rattle.station.specs.declared.record.Station.{Station}
-use Rattle.headend.specs.Requests.{Request, held_of}
+use Rattle.headend.specs.declared.record.Request.{Request}
+use Rattle.headend.specs.Requests.{held_of}
 use Rattle.channel.specs.History.{Issue, map_in, Sending, State, station_at}
 use Rattle.channel.proofs.Timing.{at}
 use Rattle.issuing.proofs.Planned.{of_sid}
@@ -26,7 +27,7 @@ length_of j = map_length (map_in j).elements
 
 -- the station waits on q
 abbrev pub Waits : Phase → Request → Type 0
-Waits p q = (exponent : ℕ) × (retries : ℕ) × (p ≡ Waiting exponent retries (record { 0 = q.first }) q.size)
+Waits p q = (exponent : ℕ) × (retries : ℕ) × (p ≡ Waiting exponent retries q.first q.size)
 
 -- nothing of σ's in the MAP
 abbrev pub Clear : ℕ → Issue → Type 0
@@ -47,7 +48,7 @@ module _ (B : ℕ) where
 
   -- q was taken when the next start was d. A MAP from before that is clear, and its Ack Time is not later than q; a MAP from then on has q's pending, whatever it grants
   abbrev pub Carried : ℕ → Request → ℕ → Issue → Type 0
-  Carried σ q d j = ((start_of j < d) × Clear σ j × (at B j.ack ≤ at B q.first)) ⊎ ((d ≤ start_of j) × (of_sid σ (pending_by j) ≡ q ∷ []))
+  Carried σ q d j = ((start_of j < d) × Clear σ j × (at B j.ack ≤ at B q.first.0)) ⊎ ((d ≤ start_of j) × (of_sid σ (pending_by j) ≡ q ∷ []))
 
   -- each MAP that starts at lo or later, and before hi
   abbrev pub Window : (Issue → Type 0) → ℕ → ℕ → List Issue → Type 0
@@ -60,18 +61,18 @@ module _ (B : ℕ) where
 
   -- σ's requests in flight that the headend could still take: not earlier than its Ack Time a
   abbrev pub live : ℕ → ℕ → List Request → List Request
-  live σ a qs = keep (λ q. eqb q.sid σ && leb a (at B q.first)) qs
+  live σ a qs = keep (λ q. eqb q.sid σ && leb a (at B q.first.0)) qs
 
   -- a station with SID σ in phase p, that has heard MAPs up to e; N is the next start, h and f are what is σ's of the requests held, and live of those in flight
   pub data Case (σ : ℕ) (p : Phase) (e N : ℕ) (h f : List Request) (js : List Issue) : Type 0 where
     -- nothing of its own is held, or live in flight, or in a MAP that it may still hear; nothing is said of the phase
     quiet : h ≡ [] → f ≡ [] → Window (Clear σ) e N js → Case σ p e N h f js
     -- it waits on q, which is in flight
-    flying : (q : Request) → Waits p q → h ≡ [] → f ≡ q ∷ [] → at B q.first < N → Window (Clear σ) e N js → Case σ p e N h f js
+    flying : (q : Request) → Waits p q → h ≡ [] → f ≡ q ∷ [] → at B q.first.0 < N → Window (Clear σ) e N js → Case σ p e N h f js
     -- it waits on q, which the headend holds
-    held : (q : Request) (d : ℕ) → Waits p q → h ≡ q ∷ [] → f ≡ [] → at B q.first < N → d ≤ N → Window (Carried σ q d) e N js → Case σ p e N h f js
+    held : (q : Request) (d : ℕ) → Waits p q → h ≡ q ∷ [] → f ≡ [] → at B q.first.0 < N → d ≤ N → Window (Carried σ q d) e N js → Case σ p e N h f js
     -- it waits on q, which MAP g grants; g is not heard yet
-    granted : (q : Request) (d : ℕ) (g : Issue) → Waits p q → h ≡ [] → f ≡ [] → at B q.first < N → Memᴰ g js → e ≤ start_of g →
+    granted : (q : Request) (d : ℕ) (g : Issue) → Waits p q → h ≡ [] → f ≡ [] → at B q.first.0 < N → Memᴰ g js → e ≤ start_of g →
         of_sid σ (granted_by g) ≡ q ∷ [] → of_sid σ (pending_by g) ≡ [] → Window (Carried σ q d) e (start_of g) js → Window (Clear σ) (end_of g) N js → Case σ p e N h f js
 
   -- the remembered end, 0 before the first MAP

@@ -21,7 +21,7 @@ use Rattle.hearing.specs.Steps.{granted}
 use Rattle.hearing.specs.Hearing.{has_grant, has_pending, phase_after, request_in, station_after}
 use Rattle.hearing.proofs.Heard.{Outcome, hear_granted, hear_idle, hear_outcome, hear_still}
 use Rattle.hearing.proofs.Inside.{contention_inside}
-use Rattle.headend.specs.Requests.{Request}
+use Rattle.headend.specs.declared.record.Request.{Request}
 use Rattle.issuing.proofs.Planned.{of_sid}
 use Rattle.channel.specs.History.{Issue, map_in, request_by}
 use Rattle.channel.proofs.Timing.{at, at_moved}
@@ -42,7 +42,7 @@ module _ (st : Station) (m : Map) (draw : ℕ) where
   sent_none e = rw e refl
 
   pub sent_one : (exponent retries : ℕ) (time : MiniSlot) (size : ℕ) → phase_after st m draw ≡ Waiting exponent retries time size → request_in st m draw ≡ At time →
-      sent_on st m draw ≡ record { sid = st.sid; size = size; first = time.0 } ∷ []
+      sent_on st m draw ≡ record { sid = st.sid; size = size; first = time } ∷ []
   unfolding station_after
   sent_one exponent retries time size w e = rw (e, w) refl
 

@@ -17,7 +17,7 @@ use Rattle.hearing.specs.declared.answer.Sent.TheVariants.{Nothing, At}
 use Rattle.hearing.specs.Hearing.{has_grant, has_pending, phase_after, request_in, station_after}
 use Rattle.hearing.proofs.Heard.{Outcome, hear_granted, hear_outcome}
 use Rattle.hearing.proofs.Heard.Outcome.{silent, spoke}
-use Rattle.headend.specs.Requests.{Request}
+use Rattle.headend.specs.declared.record.Request.{Request}
 use Rattle.issuing.specs.Plan.{total, use_of}
 use Rattle.issuing.proofs.Planned.{grant_intervals}
 use Rattle.channel.specs.History.{Issue, map_in, Sending, bursts_by, sendings_by}

@@ -60,7 +60,7 @@ module _ (κs : Lifetimes.Lfts 1) (a : World.ArgsD hear'.signature κs) (r : Wor
 
 -- Headend::request, of the k-th request in flight
 module _ (κs : Lifetimes.Lfts 0) (a : World.ArgsD request'.signature κs) (r : World.ResD request'.signature κs) (t : Clauses.AtExit (Kinds'.ended_of 0 request_kinds.ps request_kinds.r) κs) (post : request.Post κs a r t) where
-  pub request_code : (s : State) (k : ℕ) → a.0 ≡ s.headend → record { sid = a.1.0; size = a.1.1.0; first = a.1.1.1.0.0 } ≡ get_or s.flying k nothing →
+  pub request_code : (s : State) (k : ℕ) → a.0 ≡ s.headend → record { sid = a.1.0; size = a.1.1.0; first = a.1.1.1.0 } ≡ get_or s.flying k nothing →
       step s (Deliver k) ≡ record { headend = r.headend; stations = s.stations; issues = s.issues; flying = pluck k s.flying; log = s.log }
   unfolding step
   request_code s k e f = rw (post, e, f) refl

@@ -10,7 +10,8 @@ use native.Mathlib.Omega.{arith}
 use Rattle.station.specs.Offering as offering
 use Rattle.hearing.specs.declared.answer.Sent.TheVariants as sent
 use Rattle.hearing.specs.Hearing.{hear_of}
-use Rattle.headend.specs.Requests.{Request, held_of}
+use Rattle.headend.specs.declared.record.Request.{Request}
+use Rattle.headend.specs.Requests.{held_of}
 use Rattle.channel.specs.History.{Issue, bytes_of, State, station_at, Offer, Hear, Deliver, heard_by, step, after}
 use Rattle.channel.specs.Claims.{GrantedAlone, HeldWaits, WaitingHeld}
 use Rattle.channel.proofs.Computing.{rules}

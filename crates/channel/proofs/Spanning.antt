@@ -12,7 +12,7 @@ use borrow.Author.Tests.{eqb-true}
 use Rattle.slots.specs.Time.{moved_on}
 use Rattle.message.specs.Map.{end_of}
 use Rattle.headend.specs.declared.record.Headend.{Headend}
-use Rattle.headend.specs.Requests.{Request}
+use Rattle.headend.specs.declared.record.Request.{Request}
 use Rattle.headend.specs.Records.{with_places, request_fault, joined, request_of}
 use Rattle.issuing.specs.Issue.{issue_fault, issue_of}
 use Rattle.channel.specs.History.{from, Issue, map_in, State, Event, Offer, Issue', Hear, Deliver, Lose, heard_at, asked, step, after, spent}

@@ -1,5 +1,6 @@
 -- The start: what is freshly set up meets the invariant.
 use mathlib.Core.Path.{◌≡◌, refl}
+use Rattle.std.proofs.Common.{Ok, Err}
 use mathlib.Core.Bool.{Bool, true, false, not, ◌||◌}
 use mathlib.Core.List.Memᴰ
 use mathlib.Core.List.{[]}
@@ -39,10 +40,11 @@ unfolding records.set_up_of held_of listed
 new_headend h channel count f = go (bad_backoff f.ranging || bad_backoff f.data_backoff) refl
   where
     go : (b : Bool) → (bad_backoff f.ranging || bad_backoff f.data_backoff) ≡ b → NewHeadend h
-    go true e = let z : ◌≡◌ {A = ℕ} 4 0 = rw e at f.set_up in absurd (omega arith)
+    go true e = let z : Err (refusal 4 0) ≡ Ok h = rw e at f.set_up in absurd (let y : ◌≡◌ {A = ℕ} 0 1 = cc in omega arith)
     go false e =
-        let is : h ≡ records.fresh f.next channel count f.ranging f.data_backoff f.short = rw e at f.is in
-        rw is (record { first_ack = refl; clock = f.clock; places = record { sids = refl; sizes = refl; firsts = refl }; none_held = refl })
+        let z : Ok (records.fresh f.next channel count f.ranging f.data_backoff f.short) ≡ Ok h = rw e at f.set_up in
+        let is : records.fresh f.next channel count f.ranging f.data_backoff f.short ≡ h = cc in
+        rw (← is) (record { first_ack = refl; clock = f.clock; places = record { requests = refl }; none_held = refl })
 
 -- a station that was set up
 record NewStation (st : Station) : Type 0 where

@@ -22,7 +22,8 @@ use Rattle.station.specs.declared.record.Station.{Station}
 use Rattle.station.specs.Offering.{wanting, offer_of}
 use Rattle.hearing.specs.Hearing.{hear_fault, station_after, hear_of}
 use Rattle.headend.specs.declared.record.Headend.{Headend}
-use Rattle.headend.specs.Requests.{Request, held_of}
+use Rattle.headend.specs.declared.record.Request.{Request}
+use Rattle.headend.specs.Requests.{held_of}
 use Rattle.headend.specs.Records.{with_places, request_fault, joined, request_of}
 use Rattle.headend.proofs.Checks.{Welcome, request_welcome}
 use Rattle.headend.proofs.Tables.{held_joined}
@@ -53,7 +54,7 @@ state headend stations issues flying log = record { headend = headend; stations 
 
 module _ (B : ℕ) (s : State) (inv : Inv B s) where
   -- σ's live requests: the blank one is never live
-  blank : (σ a : ℕ) → eqb 0 σ ≡ false → (eqb nothing.sid σ && leb a (at B nothing.first)) ≡ false
+  blank : (σ a : ℕ) → eqb 0 σ ≡ false → (eqb nothing.sid σ && leb a (at B nothing.first.0)) ≡ false
   blank σ a e = and_false (eqb 0 σ) _ e
 
   -- a station is changed to Wanting
@@ -113,11 +114,11 @@ module _ (B : ℕ) (s : State) (inv : Inv B s) where
     abbrev it : Request
     it = get_or s.flying k nothing
 
-    late : at B s.headend.ack.0 ≤ at B it.first
-    late = not_passed small it.first ok.current
+    late : at B s.headend.ack.0 ≤ at B it.first.0
+    late = not_passed small it.first.0 ok.current
 
     more : held_of (joined s.headend it) ≡ held_of s.headend ++ (it ∷ [])
-    more = held_joined s.headend it ok.few inv.places.sids inv.places.sizes inv.places.firsts
+    more = held_joined s.headend it ok.few inv.places.requests
 
     owner : Owned B s it
     owner = go (get_d_mem s.flying k nothing)
@@ -141,12 +142,12 @@ module _ (B : ℕ) (s : State) (inv : Inv B s) where
         none = blank σ a (inv.each i h).steady.nonzero
 
         go : (c : Bool) → eqb it.sid σ ≡ c → Case B σ (station_at s i).phase (heard_to B (station_at s i)) (at B s.headend.next.0) (of_sid σ (held_of s.headend) ++ cond c (it ∷ []) []) (live B σ a (pluck k s.flying)) s.issues
-        go true z = let y = both_true (eqb it.sid σ) (leb a (at B it.first)) z (le-leb _ _ late) in
+        go true z = let y = both_true (eqb it.sid σ) (leb a (at B it.first.0)) z (le-leb _ _ late) in
             case_taken B _ _ _ _ _ _ _ it _
             (λ o. clash _ y (keep_none_at _ s.flying k nothing none o))
             (λ q o. pluck_this _ s.flying k nothing q none y o)
             (λ j m. let r = inv.line.acks j m in omega (arith, late)) (inv.each i h).which
-        go false z = rw (append-nil (of_sid σ (held_of s.headend)), pluck_other (λ (q : Request). eqb q.sid σ && leb a (at B q.first)) s.flying k nothing (and_false _ _ z)) (inv.each i h).which
+        go false z = rw (append-nil (of_sid σ (held_of s.headend)), pluck_other (λ (q : Request). eqb q.sid σ && leb a (at B q.first.0)) s.flying k nothing (and_false _ _ z)) (inv.each i h).which
 
     took : Inv B (state (joined s.headend it) s.stations s.issues (pluck k s.flying) s.log)
     unfolding joined with_places
@@ -201,14 +202,14 @@ module _ (B : ℕ) (s : State) (inv : Inv B s) where
     held_is = held_issued s.headend ack c budget ok.few
 
     -- requests that the new Ack Time passes are live no more
-    live_later : (σ : ℕ) → live B σ (at B ack) s.flying ≡ keep (λ q. eqb q.sid σ && leb (at B ack) (at B q.first)) (live B σ (at B s.headend.ack.0) s.flying)
-    live_later σ = keep_stricter (λ q. eqb q.sid σ && leb (at B s.headend.ack.0) (at B q.first)) (λ q. eqb q.sid σ && leb (at B ack) (at B q.first))
-        (λ q t. let r = leb-true (at B ack) (at B q.first) (and_right (eqb q.sid σ) (leb (at B ack) (at B q.first)) t) in
-        both_true (eqb q.sid σ) (leb (at B s.headend.ack.0) (at B q.first)) (and_left (eqb q.sid σ) (leb (at B ack) (at B q.first)) t)
-        (le-leb (at B s.headend.ack.0) (at B q.first) (omega (arith, between)))) s.flying
+    live_later : (σ : ℕ) → live B σ (at B ack) s.flying ≡ keep (λ q. eqb q.sid σ && leb (at B ack) (at B q.first.0)) (live B σ (at B s.headend.ack.0) s.flying)
+    live_later σ = keep_stricter (λ q. eqb q.sid σ && leb (at B s.headend.ack.0) (at B q.first.0)) (λ q. eqb q.sid σ && leb (at B ack) (at B q.first.0))
+        (λ q t. let r = leb-true (at B ack) (at B q.first.0) (and_right (eqb q.sid σ) (leb (at B ack) (at B q.first.0)) t) in
+        both_true (eqb q.sid σ) (leb (at B s.headend.ack.0) (at B q.first.0)) (and_left (eqb q.sid σ) (leb (at B ack) (at B q.first.0)) t)
+        (le-leb (at B s.headend.ack.0) (at B q.first.0) (omega (arith, between)))) s.flying
 
     one_later : (σ : ℕ) (q : Request) → live B σ (at B s.headend.ack.0) s.flying ≡ q ∷ [] → (live B σ (at B ack) s.flying ≡ q ∷ []) ⊎ (live B σ (at B ack) s.flying ≡ [])
-    one_later σ q e = rw (live_later σ, e) (go (eqb q.sid σ && leb (at B ack) (at B q.first)))
+    one_later σ q e = rw (live_later σ, e) (go (eqb q.sid σ && leb (at B ack) (at B q.first.0)))
       where
         go : (b : Bool) → (cond b (q ∷ []) [] ≡ q ∷ []) ⊎ (cond b (q ∷ []) [] ≡ [])
         go true = inl refl
@@ -279,9 +280,9 @@ module _ (B : ℕ) (s : State) (inv : Inv B s) where
 
       -- another station's part of what is in flight
       others : (k : ℕ) → k < length s.stations → (k ≡ i → ⊥) → (a : ℕ) → live B (station_at s k).sid a (sent ++ s.flying) ≡ live B (station_at s k).sid a s.flying
-      others k h n a = keep_append (λ (q : Request). eqb q.sid (station_at s k).sid && leb a (at B q.first)) sent s.flying ∙
-          ap (λ l. l ++ live B (station_at s k).sid a s.flying) (keep_none (λ (q : Request). eqb q.sid (station_at s k).sid && leb a (at B q.first)) sent
-          (λ q m. and_false (eqb q.sid (station_at s k).sid) (leb a (at B q.first))
+      others k h n a = keep_append (λ (q : Request). eqb q.sid (station_at s k).sid && leb a (at B q.first.0)) sent s.flying ∙
+          ap (λ l. l ++ live B (station_at s k).sid a s.flying) (keep_none (λ (q : Request). eqb q.sid (station_at s k).sid && leb a (at B q.first.0)) sent
+          (λ q m. and_false (eqb q.sid (station_at s k).sid) (leb a (at B q.first.0))
           (ne_eqb q.sid (station_at s k).sid (λ e. n (inv.apart k i h inside (sym e ∙ sent_sid (station_at s i) (map_in j) draw q m))))))
 
       this_fits : heard_to B (station_at s i) ≤ start_of B j → Fits B (heard_by s i (heard (station_at s i) (map_in j) draw) (map_in j)) next

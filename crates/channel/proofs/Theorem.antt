@@ -20,7 +20,8 @@ use Rattle.hearing.specs.declared.answer.Hearing.{Hearing}
 use Rattle.hearing.specs.Hearing.{phase_after, request_in, station_after}
 use Rattle.hearing.proofs.Heard.{Outcome}
 use Rattle.hearing.proofs.Heard.Outcome.{silent, spoke}
-use Rattle.headend.specs.Requests.{Request, held_of}
+use Rattle.headend.specs.declared.record.Request.{Request}
+use Rattle.headend.specs.Requests.{held_of}
 use Rattle.issuing.specs.declared.issuing.Issued.{Issued}
 use Rattle.issuing.specs.declared.issuing.Issued.TheVariants as issued
 use Rattle.channel.specs.History.{from, Issue, bytes_of, map_in, State, station_at, Event, Offer, Issue', Hear, Deliver, Lose, heard_at, issues_after, asked, issuing, step, after, spent}
@@ -148,7 +149,7 @@ module _ (B : ℕ) where
     module _ (i : ℕ) (h : i < length s.stations) (j : Issue) (m : Memᴰ j s.issues) (draw exponent retries size : ℕ) (time : MiniSlot)
         (w : phase_after (station_at s i) (map_in j) draw ≡ Waiting exponent retries time size) (late : earlier 32 time.0 j.ack ≡ true) (fresh : heard_to B (station_at s i) ≤ start_of B j) where
       abbrev Found : Type 0
-      Found = (q : Request) × Memᴰ q (held_of j.before) × (q.sid ≡ (station_at s i).sid) × (q.size ≡ size) × (q.first ≡ time.0)
+      Found = (q : Request) × Memᴰ q (held_of j.before) × (q.sid ≡ (station_at s i).sid) × (q.size ≡ size) × (q.first ≡ time)
 
       before : start_of B j < at B s.headend.next.0
       before = omega (arith, ends j m)
@@ -173,17 +174,16 @@ module _ (B : ℕ) where
           go (silent a b) = go2 (b exponent retries time size w).1
           go (spoke exponent' retries' time' size' e' s' c) = not_new time'.0 (let z : time' ≡ time = cc in ap (λ (t : MiniSlot). t.0) z) c
 
-      found : (q : Request) (d : ℕ) → Waits (station_at s i).phase q → at B q.first < at B s.headend.next.0 → Carried B (station_at s i).sid q d j → Found
+      found : (q : Request) (d : ℕ) → Waits (station_at s i).phase q → at B q.first.0 < at B s.headend.next.0 → Carried B (station_at s i).sid q d j → Found
       found q d v b (inl (_, c, _)) = absurd (not_clear c)
       found q d (x, r, v) b (inr (l, c)) =
           let u = still_waits B (station_at s i) j draw (at B s.headend.next.0) (at B s.headend.ack.0) [] [] s.issues inv.line.chain below m fresh (inv.line.acks j m).1 (inv.line.acks j m).0 (inv.line.contents j m) (inv.each i h).steady.single (inv.each i h).steady.asks q d x r v b (inr (l, c)) in
-          let z : Waiting x r (record { 0 = q.first }) q.size ≡ Waiting exponent retries time size = sym u.0 ∙ w in
-          let t : record { 0 = q.first } ≡ time = cc in (
+          let z : Waiting x r q.first q.size ≡ Waiting exponent retries time size = sym u.0 ∙ w in (
             q,
             (rw (held_split j) at (Memᴰ.append_right (granted_by j) (mem_only _ (pending_by j) q c))),
             eqb-true _ _ (keep_head (λ (q : Request). eqb q.sid (station_at s i).sid) (pending_by j) q [] c),
             (let y : q.size ≡ size = cc in y),
-            ap (λ (t : MiniSlot). t.0) t,
+            (let y : q.first ≡ time = cc in y),
           )
 
       waited : Which i → Found
@@ -200,7 +200,7 @@ module _ (B : ℕ) where
     pub waiting_held : WaitingHeld s
     waiting_held i h j m present draw bursts request ok exponent retries size time w late = go (hear_either (station_at s i) (bytes_of j) present draw)
       where
-        go : Either (station_at s i) (bytes_of j) present draw → (q : Request) × Memᴰ q (held_of j.before) × (q.sid ≡ (station_at s i).sid) × (q.size ≡ size) × (q.first ≡ time.0)
+        go : Either (station_at s i) (bytes_of j) present draw → (q : Request) × Memᴰ q (held_of j.before) × (q.sid ≡ (station_at s i).sid) × (q.size ≡ size) × (q.first ≡ time)
         go (inl (why, e)) = let z : answer.Refused why ≡ answer.Heard bursts request = sym (ap (λ (r : Hearing). r.answer) e) ∙ ok in absurd (let y : ◌≡◌ {A = ℕ} 0 1 = cc in omega arith)
         go (inr (e, f)) = waited i h j m draw exponent retries size time (phase_is (station_at s i) (map_in j) draw ∙ ap (λ (r : Hearing). r.station.phase) (sym e) ∙ w) (rw (inv.line.contents j m).ack at late) (fresh_if B s inv small i h j m present f) (inv.each i h).which
 

@@ -1,5 +1,5 @@
 -- What is claimed of every history: demand 3. The mission's words stand over each part.
-use Rattle.std.specs.Prelude.{◌≡◌, true, ℕ, ◌+◌, ◌%◌, ◌^◌, ◌<◌, length}
+use Rattle.std.specs.Prelude.{◌≡◌, true, ℕ, ◌+◌, ◌%◌, ◌^◌, ◌<◌, Ok, length}
 use mathlib.Core.List.{[], Memᴰ}
 use Rattle.slots.specs.declared.time.MiniSlot.{MiniSlot}
 use Rattle.slots.specs.Time.{ahead, half, earlier}
@@ -14,7 +14,8 @@ use Rattle.hearing.specs.declared.answer.Answer.TheVariants as answer
 use Rattle.hearing.specs.declared.answer.Sent.{Sent}
 use Rattle.hearing.specs.Hearing.{hear_of}
 use Rattle.headend.specs.declared.record.Headend.{Headend}
-use Rattle.headend.specs.Requests.{Request, held_of}
+use Rattle.headend.specs.declared.record.Request.{Request}
+use Rattle.headend.specs.Requests.{held_of}
 use Rattle.headend.specs.Records as records
 use Rattle.channel.specs.History.{Issue, bytes_of, map_in, Sending, State, station_at}
 
@@ -24,8 +25,7 @@ pub record FreshHeadend (h : Headend) (channel count : ℕ) : Type 0 where
   pub ranging : Backoff
   pub data_backoff : Backoff
   pub short : ℕ
-  pub set_up : (records.set_up_of next channel count ranging data_backoff short).refusal.number ≡ 0
-  pub is : h ≡ (records.set_up_of next channel count ranging data_backoff short).headend
+  pub set_up : records.set_up_of next channel count ranging data_backoff short ≡ Ok h
   pub clock : next.0 < 2 ^ 32
 
 -- "and stations freshly set up", "on one channel and description"
@@ -63,7 +63,7 @@ GrantedAlone s =
 -- (b) "while the headend holds a request, the station that sent it is waiting on that very one": SID, size and first mini-slot
 abbrev pub HeldWaits : State → Type 0
 HeldWaits s = (q : Request) → Memᴰ q (held_of s.headend) →
-    (i : ℕ) × (i < length s.stations) × ((station_at s i).sid ≡ q.sid) × ((exponent : ℕ) × (retries : ℕ) × ((station_at s i).phase ≡ Waiting exponent retries (record { 0 = q.first }) q.size))
+    (i : ℕ) × (i < length s.stations) × ((station_at s i).sid ≡ q.sid) × ((exponent : ℕ) × (retries : ℕ) × ((station_at s i).phase ≡ Waiting exponent retries q.first q.size))
 
 -- (c) "a station still waiting after a MAP it accepted, whose Ack Time is later than its request, had that request held by the headend when that MAP was issued"
 abbrev pub WaitingHeld : State → Type 0
@@ -74,7 +74,7 @@ WaitingHeld s =
     -- and is then waiting, its request earlier than the Ack Time
     (exponent retries size : ℕ) (time : MiniSlot) → (hear_of (station_at s i) (bytes_of j) present draw).station.phase ≡ Waiting exponent retries time size →
     earlier 32 time.0 (map_in j).fields.ack.0 ≡ true →
-    (q : Request) × Memᴰ q (held_of j.before) × (q.sid ≡ (station_at s i).sid) × (q.size ≡ size) × (q.first ≡ time.0)
+    (q : Request) × Memᴰ q (held_of j.before) × (q.sid ≡ (station_at s i).sid) × (q.size ≡ size) × (q.first ≡ time)
 
 pub record Safe (s : State) : Type 0 where
   pub granted_alone : GrantedAlone s

@@ -14,7 +14,7 @@ use Rattle.hearing.specs.declared.answer.Answer.TheVariants as answer
 use Rattle.hearing.specs.declared.answer.Hearing.{Hearing}
 use Rattle.hearing.specs.Hearing.{hear_of}
 use Rattle.headend.specs.declared.record.Headend.{Headend}
-use Rattle.headend.specs.Requests.{Request}
+use Rattle.headend.specs.declared.record.Request.{Request}
 use Rattle.headend.specs.Records.{request_of}
 use Rattle.issuing.specs.declared.issuing.Issued.{Issued}
 use Rattle.issuing.specs.declared.issuing.Issued.TheVariants as issued
@@ -79,7 +79,7 @@ abbrev pub nobody : Station
 nobody = record { sid = 0; channel = 0; count = 0; r = 0; end = remembered.Nothing; phase = Idle }
 
 abbrev pub nothing : Request
-nothing = record { sid = 0; size = 0; first = 0 }
+nothing = record { sid = 0; size = 0; first = record { 0 = 0 } }
 
 abbrev pub station_at : State → ℕ → Station
 station_at s i = get_or s.stations i nobody
@@ -94,14 +94,14 @@ size_in (Waiting exponent retries time size) = size
 -- the request that was sent in a hearing: the answer's mini-slot, with the SID and the packet's size of the station that sent it
 abbrev pub request_by : Station → Sent → List Request
 request_by st sent.Nothing = []
-request_by st (sent.At t) = record { sid = st.sid; size = size_in st.phase; first = t.0 } ∷ []
+request_by st (sent.At t) = record { sid = st.sid; size = size_in st.phase; first = t } ∷ []
 
 -- "every mini-slot of a data burst", "all r mini-slots of a request"
 abbrev pub bursts_by : Station → Map → List Sending
 bursts_by st m = map (λ k. record { sid = st.sid; first = time_at m k.first; size = k.length }) (grants_to st.sid m.elements)
 
 abbrev pub sendings_by : Station → List Request → List Sending
-sendings_by st qs = map (λ q. record { sid = st.sid; first = q.first; size = st.r }) qs
+sendings_by st qs = map (λ q. record { sid = st.sid; first = q.first.0; size = st.r }) qs
 
 -- what a hearing sent, as requests and as sendings; a refused one sent nothing
 abbrev pub requests_in : Station → Answer → List Request

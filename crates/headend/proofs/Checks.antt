@@ -7,7 +7,7 @@ use Rattle.rules.specs.declared.refusal.Reason.TheVariants.{Sid, Size, Passed, U
 use Rattle.rules.specs.declared.refusal.Refusal.{Refusal}
 use Rattle.rules.specs.Refusals.{refusal, then}
 use Rattle.std.specs.List.{list_any}
-use mathlib.Core.Bool.{true, false, not, ◌||◌}
+use mathlib.Core.Bool.{Bool, true, false, cond, not, ◌||◌}
 use mathlib.Core.List.{List}
 use Prim.Native.Nat.{ℕ, ◌≤◌, ◌<◌}
 use native.Mathlib.Omega.{arith}
@@ -20,51 +20,43 @@ use Rattle.rules.specs.Backoffs.{bad_backoff}
 use Rattle.rules.specs.Sids.{unicast}
 use Rattle.message.proofs.Ways.{said, said_not, passed}
 use Rattle.headend.specs.declared.record.Headend.{Headend}
+use Rattle.headend.specs.declared.record.Taking.{Taking}
 use Rattle.headend.specs.declared.record.Request.{Request}
 use Rattle.headend.specs.Requests.{held_of}
 use Rattle.headend.specs.Records.{fresh, set_up_of, bad_size, record_fault, request_fault, joined, request_of}
 
-module _ (next : MiniSlot) (channel count : ℕ) (ranging data_backoff : Backoff) (short : ℕ) where
-  pub new_ranging : (r : Refusal) → bad_backoff ranging ≡ true → r ≡ refusal reason.Backoff 0 → Err r ≡ set_up_of next channel count ranging data_backoff short
+module _ (next : MiniSlot) (channel count : ℕ) (ranging data_backoff : Backoff) (short : ℕ) (a b : Bool) (x : a ≡ bad_backoff ranging) (y : b ≡ bad_backoff data_backoff) where
+  pub new_bad : (r : Refusal) → (a || b) ≡ true → r ≡ refusal reason.Backoff 0 → Err r ≡ set_up_of next channel count ranging data_backoff short
   unfolding set_up_of
-  new_ranging r a e = rw (a, e) refl
+  new_bad r e k = rw (← x, ← y, e, k) refl
 
-  pub new_data : (r : Refusal) → bad_backoff ranging ≡ false → bad_backoff data_backoff ≡ true → r ≡ refusal reason.Backoff 0 → Err r ≡ set_up_of next channel count ranging data_backoff short
+  pub new_good : (a || b) ≡ false → Ok (fresh next channel count ranging data_backoff short) ≡ set_up_of next channel count ranging data_backoff short
   unfolding set_up_of
-  new_data r a b e = rw (a, b, e) refl
+  new_good e = rw (← x, ← y, e) refl
 
-  pub new_good : bad_backoff ranging ≡ false → bad_backoff data_backoff ≡ false → Ok (fresh next channel count ranging data_backoff short) ≡ set_up_of next channel count ranging data_backoff short
-  unfolding set_up_of
-  new_good a b = rw (a, b) refl
-
-module _ (h : Headend) where
-  pub record_ranging : bad_backoff h.ranging ≡ true → Err reason.Backoff ≡ record_fault h
+module _ (h : Headend) (a b : Bool) (x : a ≡ bad_backoff h.ranging) (y : b ≡ bad_backoff h.«data») where
+  pub record_backoff : (a || b) ≡ true → Err reason.Backoff ≡ record_fault h
   unfolding record_fault
-  record_ranging a = rw a refl
+  record_backoff e = rw (← x, ← y, e) refl
 
-  module _ (a : bad_backoff h.ranging ≡ false) where
-    pub record_data : bad_backoff h.«data» ≡ true → Err reason.Backoff ≡ record_fault h
-    unfolding record_fault
-    record_data b = rw (a, b) refl
+  module _ (good : (a || b) ≡ false) where
+    module _ (held : List Request) (is : held ≡ held_of h) where
+      pub record_sid : list_any (λ q. not (unicast q.sid)) held ≡ true → Err Sid ≡ record_fault h
+      unfolding record_fault
+      record_sid e = rw (← x, ← y, good, ← is, e) refl
 
-    module _ (b : bad_backoff h.«data» ≡ false) where
-      module _ (held : List Request) (is : held ≡ held_of h) where
-        pub record_sid : list_any (λ q. not (unicast q.sid)) held ≡ true → Err Sid ≡ record_fault h
+      module _ (e : list_any (λ q. not (unicast q.sid)) held ≡ false) where
+        pub record_many : 64 < h.held → Err Size ≡ record_fault h
         unfolding record_fault
-        record_sid e = rw (a, b, ← is, e) refl
+        record_many f = rw (← x, ← y, good, ← is, e, lt-ltb 64 h.held f) refl
 
-        module _ (e : list_any (λ q. not (unicast q.sid)) held ≡ false) where
-          pub record_many : 64 < h.held → Err Size ≡ record_fault h
-          unfolding record_fault
-          record_many f = rw (a, b, ← is, e, lt-ltb 64 h.held f) refl
+        pub record_size : h.held ≤ 64 → list_any (λ q. bad_size q.size) held ≡ true → Err Size ≡ record_fault h
+        unfolding record_fault
+        record_size f g = rw (← x, ← y, good, ← is, e, le-ltb 64 h.held f, g) refl
 
-          pub record_size : h.held ≤ 64 → list_any (λ q. bad_size q.size) held ≡ true → Err Size ≡ record_fault h
-          unfolding record_fault
-          record_size f g = rw (a, b, ← is, e, le-ltb 64 h.held f, g) refl
-
-          pub record_good : h.held ≤ 64 → list_any (λ q. bad_size q.size) held ≡ false → Ok tt ≡ record_fault h
-          unfolding record_fault
-          record_good f g = rw (a, b, ← is, e, le-ltb 64 h.held f, g) refl
+        pub record_good : h.held ≤ 64 → list_any (λ q. bad_size q.size) held ≡ false → Ok tt ≡ record_fault h
+        unfolding record_fault
+        record_good f g = rw (← x, ← y, good, ← is, e, le-ltb 64 h.held f, g) refl
 
 module _ (h : Headend) (q : Request) (k : Result Unit Reason) (is : k ≡ record_fault h) where
   pub request_record : (why : Reason) → k ≡ Err why → Err why ≡ request_fault h q
@@ -90,11 +82,11 @@ module _ (h : Headend) (q : Request) (k : Result Unit Reason) (is : k ≡ record
         request_passed e = rw (good', a, b, e) refl
 
         module _ (e : earlier 32 q.first.0 h.ack.0 ≡ false) where
-          pub request_early : not (earlier 32 q.first.0 h.next.0) ≡ true → Err Unannounced ≡ request_fault h q
+          pub request_early : earlier 32 q.first.0 h.next.0 ≡ false → Err Unannounced ≡ request_fault h q
           unfolding request_fault
           request_early f = rw (good', a, b, e, f) refl
 
-          module _ (f : not (earlier 32 q.first.0 h.next.0) ≡ false) where
+          module _ (f : earlier 32 q.first.0 h.next.0 ≡ true) where
             module _ (held : List Request) (all : held ≡ held_of h) where
               pub request_held : list_any (λ p. eqb p.sid q.sid) held ≡ true → Err Held ≡ request_fault h q
               unfolding request_fault
@@ -164,6 +156,6 @@ module _ (h : Headend) (q : Request) (k : Result Unit Reason) (is : k ≡ reques
   unfolding request_of
   request_taken r a b = rw (sym is ∙ a, ← b) refl
 
-pub ruleset ways = (said, said_not, not-true, new_ranging, new_data, new_good, record_ranging, record_data, record_sid, record_many, record_size, record_good)
+pub ruleset ways = (said, said_not, not-true, new_bad, new_good, record_backoff, record_sid, record_many, record_size, record_good)
 
 pub ruleset request_ways = (said, request_record, request_sid, request_size, request_passed, request_early, request_held, request_full, request_good)

@@ -1,5 +1,5 @@
 // The headend's record.
-ghost use Rattle.std.specs.Prelude.{◌≡◌};
+ghost use Rattle.std.specs.Prelude.{◌≡◌, ◌≤◌, length};
 ghost use Rattle.headend.specs.Requests.{spare, held_of};
 ghost use Rattle.headend.specs.Records.{with_places};
 
@@ -65,7 +65,8 @@ pub fn with_places(
 impl Headend {
     // The requests held: of a record handed in, never more than there are places.
     pub fn held_requests(&self) -> &[Request]
-        ensures { result.now ≡ held_of self.now }
+        ensures held { result.now ≡ held_of self.now }
+        ensures few { length result.now ≤ 64 }
     {
         let n = self.held.min(Headend::MOST_HELD) as usize;
         &self.requests[..n]

@@ -1,11 +1,10 @@
 // A request taken.
-ghost use Rattle.std.specs.Prelude.{◌≡◌, not, ◌<◌, eqb};
+ghost use Rattle.std.specs.Prelude.{◌≡◌, ◌<◌, eqb};
 ghost use Rattle.std.specs.List.{list_any};
-ghost use Rattle.slots.specs.Time.{earlier};
 ghost use Rattle.headend.specs.Records.{request_fault, joined, request_of};
 
 use crate::record::{Headend, Request, Taking, with_places};
-use crate::setup::{outside, record_fault};
+use crate::setup::record_fault;
 use rules::{Reason, Refusal};
 use slots::MiniSlot;
 
@@ -15,26 +14,20 @@ fn any_of(sid: u32, held: &[Request]) -> bool
     held.iter().any(|q| q.sid == sid)
 }
 
-fn not_earlier(time: MiniSlot, other: MiniSlot) -> bool
-    ensures { result ≡ not (earlier 32 time.0 other.0) }
-{
-    !time.earlier(other)
-}
-
 fn request_fault(h: Headend, q: Request) -> Result<(), Reason>
     ensures { result ≡ request_fault h q }
 {
     record_fault(h)?;
-    if outside(0x0001, 0x1FFF, q.sid) {
+    if q.bad_sid() {
         return Err(Reason::Sid);
     }
-    if outside(1, Headend::LONGEST_GRANT, q.size) {
+    if q.bad_size() {
         return Err(Reason::Size);
     }
     if q.first.earlier(h.ack) {
         return Err(Reason::Passed);
     }
-    if not_earlier(q.first, h.next) {
+    if !q.first.earlier(h.next) {
         return Err(Reason::Unannounced);
     }
     if any_of(q.sid, h.held_requests()) {

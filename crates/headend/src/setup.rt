@@ -1,7 +1,7 @@
 // Set-up, and the check of a record handed in.
 ghost use Rattle.std.specs.Prelude.{◌≡◌, not};
 ghost use Rattle.std.specs.List.{list_any};
-ghost use Rattle.rules.specs.Sids.{within, unicast};
+ghost use Rattle.rules.specs.Sids.{unicast};
 ghost use Rattle.headend.specs.Records.{set_up_of, bad_size, record_fault};
 
 use crate::record::{Headend, Request};
@@ -25,10 +25,7 @@ impl Headend {
     ) -> Result<Headend, Refusal>
         ensures { result ≡ set_up_of next channel count ranging «data» short }
     {
-        if ranging.bad() {
-            return Err(Refusal::from(Reason::Backoff));
-        }
-        if data.bad() {
+        if ranging.bad() | data.bad() {
             return Err(Refusal::from(Reason::Backoff));
         }
         Ok(Headend {
@@ -45,23 +42,30 @@ impl Headend {
     }
 }
 
-pub(crate) fn outside(low: u32, high: u32, x: u32) -> bool
-    ensures { result ≡ not (within low high x) }
-{
-    !within(low, high, x)
+impl Request {
+    pub(crate) fn bad_sid(self) -> bool
+        ensures { result ≡ not (unicast self.sid) }
+    {
+        !within(0x0001, 0x1FFF, self.sid)
+    }
+
+    pub(crate) fn bad_size(self) -> bool
+        ensures { result ≡ bad_size self.size }
+    {
+        !within(1, Headend::LONGEST_GRANT, self.size)
+    }
 }
 
 fn any_bad_sid(held: &[Request]) -> bool
     ensures { result ≡ list_any (λ q. not (unicast q.sid)) held.now }
 {
-    held.iter().any(|q| outside(0x0001, 0x1FFF, q.sid))
+    held.iter().any(|q| q.bad_sid())
 }
 
 fn any_bad_size(held: &[Request]) -> bool
     ensures { result ≡ list_any (λ q. bad_size q.size) held.now }
 {
-    held.iter()
-        .any(|q| outside(1, Headend::LONGEST_GRANT, q.size))
+    held.iter().any(|q| q.bad_size())
 }
 
 // What is wrong with a record handed in.
@@ -69,10 +73,7 @@ pub fn record_fault(h: Headend) -> Result<(), Reason>
     ensures { result ≡ record_fault h }
 {
     let held = h.held_requests();
-    if h.ranging.bad() {
-        return Err(Reason::Backoff);
-    }
-    if h.data.bad() {
+    if h.ranging.bad() | h.data.bad() {
         return Err(Reason::Backoff);
     }
     if any_bad_sid(held) {

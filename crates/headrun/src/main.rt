@@ -142,23 +142,22 @@ fn issue_28(h: Headend, ack: u32, c: u32, budget: u32, lines: &mut Lines) -> Hea
     issue(h, ack, c, budget, &mut room, lines)
 }
 
-fn answer_of(why: Refusal) -> Taken {
-    if why.number == 0 {
-        return Taken::Taken;
+fn answer_of(made: Result<Headend, Refusal>) -> Taken {
+    match made {
+        Ok(_) => Taken::Taken,
+        Err(why) => Taken::Refused(why),
     }
-    Taken::Refused(why)
 }
 
-fn set_up(next: u32, most: u8, lines: &mut Lines) -> Headend {
+fn set_up(next: u32, most: u8, lines: &mut Lines) -> Result<Headend, Refusal> {
     let ranging = Backoff { start: 0, end: 4 };
     let data = Backoff {
         start: 2,
         end: most,
     };
     let made = Headend::new(MiniSlot(next), 1, 2, ranging, data, 16);
-    let refusal = made.refusal;
-    tell_set_up(next, answer_of(refusal), lines);
-    made.headend
+    tell_set_up(next, answer_of(made), lines);
+    made
 }
 
 // 64 requests, and no word about them.
@@ -212,8 +211,8 @@ fn rolled(h: Headend, lines: &mut Lines) {
     issue_28(h, 4, 6, 30, lines);
 }
 
-fn run(lines: &mut Lines) {
-    let h = set_up(960, 6, lines);
+fn run(lines: &mut Lines) -> Result<(), Refusal> {
+    let h = set_up(960, 6, lines)?;
     fresh(h, lines);
     let h = issue_24(h, 960, 10, 10, lines);
     let h = issue_24(h, 960, 30, 30, lines);
@@ -224,11 +223,12 @@ fn run(lines: &mut Lines) {
     bad_plans(h, lines);
     issue_28(h, 980, 6, 30, lines);
     issue_28(h, 980, 6, 29, lines);
-    rolled(set_up(4294967290, 6, lines), lines);
-    set_up(960, 1, lines);
+    rolled(set_up(4294967290, 6, lines)?, lines);
+    let _ = set_up(960, 1, lines);
+    Ok(())
 }
 
 fn main(rt: HostRuntime) {
     let mut lines = Lines { rt, told: true };
-    run(&mut lines);
+    let _ = run(&mut lines);
 }

@@ -1,12 +1,10 @@
 -- The plan: its grants counted, and its elements stored one after the other.
 use mathlib.Core.Path.{◌≡◌, refl, sym, ◌∙◌, ap}
-use mathlib.Core.Bool.{cond}
 use mathlib.Core.List.{List, [], ◌∷◌, ◌++◌, append_assoc, append-nil}
 use Prim.Native.Nat.{ℕ, suc, ◌+◌, ◌-◌, ◌≤◌, ◌<◌}
 use native.Mathlib.Omega.{arith}
 use native.Mathlib.Numerals.{add-one}
 use native.Mathlib.Nat.{zero-add, add-zero, add_assoc}
-use lib.Dec.{leb}
 use lib.ListN.{length, take, drop, get_or, set, length-append, take-append-drop}
 use lib.Seq.{drop-cons, drop-length, take_at, set_at, take-length, length-take-le}
 use borrow.Author.Tests.{le-leb, lt-leb}
@@ -16,14 +14,6 @@ use Rattle.headend.specs.declared.record.Request.{Request}
 use Rattle.headend.specs.Requests.{spare}
 use Rattle.issuing.specs.Plan.{granted, total, use_of, grants, pendings, elements_of}
 use Rattle.issuing.proofs.Planned.{null, length_grants, length_pendings}
-
-pub use_short : (size short : ℕ) → size ≤ short → ◌≡◌ {A = ℕ} 5 (cond (leb size short) 5 6)
-use_short size short h = rw (le-leb size short h) refl
-
-pub use_long : (size short : ℕ) → short < size → ◌≡◌ {A = ℕ} 6 (cond (leb size short) 5 6)
-use_long size short h = rw (lt-leb size short h) refl
-
-pub ruleset uses = (use_short, use_long)
 
 -- what is left of the count gives the count of the whole
 module _ (held : List Request) (room : ℕ) where
@@ -148,25 +138,18 @@ module _ (qs : List Request) (old : List Element) (room : length qs ≤ length o
 first : Element
 first = record { sid = 0x3FFF; iuc = 1; offset = 0 }
 
-module _ (held : List Request) (g short c : ℕ) (gs ps : List Request) (front : gs ≡ take g held) (back : ps ≡ drop g held) (few : length held ≤ 64) (within : g ≤ length held) where
-  count : length gs ≡ g
-  count = ap length front ∙ length-take-le g held within
-
-  both : length gs + length ps ≡ length held
-  both = rw (front, back) (sym (length-append (take g held) (drop g held)) ∙ ap length (take-append-drop g held))
-
-  pub plan_stored : (end : ℕ) (t u v one two : List Element) → length t ≡ 65 → (end ≡ c + total gs) × (one ≡ grants short c gs ++ drop (length gs) t) → two ≡ pendings end ps ++ u →
-      take (length held + 2) (take (g + 2) (set (record { sid = 0x3FFF; iuc = 1; offset = 0 } ∷ (one ++ [])) (g + 1) (null end)) ++ (two ++ v)) ≡ elements_of short c (take g held) (drop g held)
-  unfolding elements_of first
-  plan_stored end t u v one two room grants' pendings' =
-      let G : List Element = first ∷ grants short c gs in
-      let N : List Element = null end ∷ [] in
-      let P : List Element = pendings end ps in
-      let a : length G ≡ g + 1 = omega (arith, length_grants short c gs, count) in
-      let b : length (G ++ N) ≡ g + 2 = length-append G N ∙ omega arith in
-      let d : length ((G ++ N) ++ P) ≡ length held + 2 = length-append (G ++ N) P ∙ omega (arith, length_pendings end ps, both, count) in
-      let more : g + 1 + 1 ≡ g + 2 = omega arith in
-      let begun : first ∷ (one ++ []) ≡ G ++ drop (g + 1) (first ∷ t) = ap (λ (l : List Element). first ∷ l) (append-nil one ∙ grants'.1 ∙ ap (λ (n : ℕ). grants short c gs ++ drop n t) count) ∙ rw (add-one g) refl in
-      let closed : set (first ∷ (one ++ [])) (g + 1) (null end) ≡ (G ++ N) ++ drop (g + 2) (first ∷ t) = rw begun (store first G (first ∷ t) (g + 1) (null end) a (omega arith)) ∙ ap (λ (n : ℕ). (G ++ N) ++ drop n (first ∷ t)) more in
-      let whole : take (g + 2) (set (first ∷ (one ++ [])) (g + 1) (null end)) ++ (two ++ v) ≡ ((G ++ N) ++ P) ++ (u ++ v) = rw (closed, take_at (G ++ N) (drop (g + 2) (first ∷ t)) (g + 2) b, pendings', append_assoc P u v) (sym (append_assoc (G ++ N) P (u ++ v))) in
-      rw (whole, take_at ((G ++ N) ++ P) (u ++ v) (length held + 2) d, append_assoc G N P, grants'.0, ← front, ← back) refl
+pub plan_stored : (short c : ℕ) (gs ps : List Request) → length gs + length ps ≤ 64 → (end : ℕ) (t u v one two : List Element) → length t ≡ 65 → (end ≡ c + total gs) × (one ≡ grants short c gs ++ drop (length gs) t) → two ≡ pendings end ps ++ u →
+    take (length gs + length ps + 2) (take (length gs + 2) (set (record { sid = 0x3FFF; iuc = 1; offset = 0 } ∷ (one ++ [])) (length gs + 1) (null end)) ++ (two ++ v)) ≡ elements_of short c gs ps
+unfolding elements_of first
+plan_stored short c gs ps few end t u v one two room grants' pendings' =
+    let G : List Element = first ∷ grants short c gs in
+    let N : List Element = null end ∷ [] in
+    let P : List Element = pendings end ps in
+    let a : length G ≡ length gs + 1 = omega (arith, length_grants short c gs) in
+    let b : length (G ++ N) ≡ length gs + 2 = length-append G N ∙ omega arith in
+    let d : length ((G ++ N) ++ P) ≡ length gs + length ps + 2 = length-append (G ++ N) P ∙ omega (arith, length_pendings end ps) in
+    let more : length gs + 1 + 1 ≡ length gs + 2 = omega arith in
+    let begun : first ∷ (one ++ []) ≡ G ++ drop (length gs + 1) (first ∷ t) = ap (λ (l : List Element). first ∷ l) (append-nil one ∙ grants'.1) ∙ rw (add-one (length gs)) refl in
+    let closed : set (first ∷ (one ++ [])) (length gs + 1) (null end) ≡ (G ++ N) ++ drop (length gs + 2) (first ∷ t) = rw begun (store first G (first ∷ t) (length gs + 1) (null end) a (omega arith)) ∙ ap (λ (n : ℕ). (G ++ N) ++ drop n (first ∷ t)) more in
+    let whole : take (length gs + 2) (set (first ∷ (one ++ [])) (length gs + 1) (null end)) ++ (two ++ v) ≡ ((G ++ N) ++ P) ++ (u ++ v) = rw (closed, take_at (G ++ N) (drop (length gs + 2) (first ∷ t)) (length gs + 2) b, pendings', append_assoc P u v) (sym (append_assoc (G ++ N) P (u ++ v))) in
+    rw (whole, take_at ((G ++ N) ++ P) (u ++ v) (length gs + length ps + 2) d, append_assoc G N P, grants'.0) refl

@@ -4,13 +4,14 @@ ghost use Rattle.rules.specs.Refusals.{refusal};
 ghost use Rattle.message.specs.Reading.{read_of};
 ghost use Rattle.issuing.specs.Plan.{total};
 ghost use Rattle.issuing.specs.Issue.{bad_ack, bad_plan, refuses, call_fault, places_of, moved_to, issue_of, issue_into};
-ghost use Rattle.issuing.specs.Scan.{first_held, after_first, message_by, accepted_into};
+ghost use Rattle.issuing.specs.Scan.{message_by, accepted_into};
 
-use crate::plan::{grants_within, make};
+use crate::plan::{Plan, elements_of, fields_of, plan_within};
 use headend::{Headend, Request, record_fault, with_places};
 use message::read;
 use rules::{Reason, Refusal};
 use slots::MiniSlot;
+use writer::lay_out;
 
 // The answer is how many bytes the MAP has, or why there is none.
 #[derive(Clone, Copy)]
@@ -35,7 +36,13 @@ fn bad_plan(c: u32, budget: u32) -> bool
 }
 
 // What is wrong before the MAP is made.
-fn call_fault(h: Headend, ack: MiniSlot, c: u32, budget: u32, room: usize) -> Result<(), Reason>
+fn call_fault(
+    h: Headend,
+    ack: MiniSlot,
+    c: u32,
+    budget: u32,
+    room: usize,
+) -> Result<(), Reason>
     ensures { result ≡ call_fault h ack.0 c budget room }
 {
     record_fault(h)?;
@@ -67,20 +74,13 @@ fn placed(requests: &[Request]) -> [Request; 64]
     places
 }
 
-// The record once the first g requests are granted in a MAP of this length.
-fn moved_to(h: Headend, ack: MiniSlot, length: u32, g: usize) -> Headend
-    requires { (g ≤ h.held) × (h.held ≤ 64) }
-    ensures { result ≡ moved_to h ack.0 length (after_first h g) }
+// The record once a MAP of this length leaves these requests pending.
+fn moved_to(h: Headend, ack: MiniSlot, map_length: u32, pending: &[Request]) -> Headend
+    requires { length pending.now ≤ 64 }
+    ensures { result ≡ moved_to h ack.0 map_length pending.now }
 {
-    let next = h.next;
-    let (_, rest) = h.held_requests().split_at(g);
-    with_places(
-        h,
-        next.moved_on(length),
-        ack,
-        rest.len() as u32,
-        placed(rest),
-    )
+    let next = h.next.moved_on(map_length);
+    with_places(h, next, ack, pending.len() as u32, placed(pending))
 }
 
 fn refused(h: Headend, reason: Reason) -> Issuing
@@ -105,23 +105,15 @@ fn selfcheck(own: &[u8], out: &mut [u8]) -> bool
 }
 
 // The MAP made in an array of the headend's own, and checked there before a lent byte is touched.
-fn put_map(h: Headend, ack: MiniSlot, c: u32, g: usize, out: &mut [u8]) -> bool
-    requires { (h.held ≤ 64) × ((g ≤ h.held) × ((c + total (first_held h g) ≤ 4096) × (24 + 4 * h.held ≤ length out.old))) }
-    ensures { (result ≡ refuses (read_of (message_by h ack.0 c g))) × (out.new ≡ accepted_into (message_by h ack.0 c g) out.old) }
+fn put_map(h: Headend, ack: MiniSlot, c: u32, plan: Plan, out: &mut [u8]) -> bool
+    requires { (length plan.granted.now + length plan.pending.now ≤ 64) × ((c + total plan.granted.now ≤ 4096) × (24 + 4 * (length plan.granted.now + length plan.pending.now) ≤ length out.old)) }
+    ensures { (result ≡ refuses (read_of (message_by h ack.0 c plan.entry.granted.now plan.entry.pending.now))) × (out.new ≡ accepted_into (message_by h ack.0 c plan.entry.granted.now plan.entry.pending.now) out.old) }
 {
-    let own = make(h, ack, c, g);
-    let size = 24 + 4 * (h.held as usize);
-    selfcheck(&own[..size], out)
-}
-
-fn done(h: Headend, ack: MiniSlot, length: u32, g: usize) -> Issuing
-    requires { (g ≤ h.held) × (h.held ≤ 64) }
-    ensures { result ≡ record { headend = moved_to h ack.0 length (after_first h g); answer = Ok (24 + 4 * h.held) } }
-{
-    Issuing {
-        headend: moved_to(h, ack, length, g),
-        answer: Ok(24 + 4 * h.held),
-    }
+    let elements = elements_of(plan, h.short, c);
+    let n = plan.granted.len() + plan.pending.len() + 2;
+    let mut own = [0; 280];
+    lay_out(fields_of(h, ack), &elements[..n], &mut own);
+    selfcheck(&own[..16 + 4 * n], out)
 }
 
 pub fn issue(headend: Headend, ack: MiniSlot, c: u32, budget: u32, out: &mut [u8]) -> Issuing
@@ -130,9 +122,12 @@ pub fn issue(headend: Headend, ack: MiniSlot, c: u32, budget: u32, out: &mut [u8
     if let Err(reason) = call_fault(headend, ack, c, budget, out.len()) {
         return refused(headend, reason);
     }
-    let grants = grants_within(headend.held_requests(), budget - c);
-    if put_map(headend, ack, c, grants.count, out) {
+    let plan = plan_within(headend.held_requests(), budget - c);
+    if put_map(headend, ack, c, plan, out) {
         return refused(headend, Reason::Selfcheck);
     }
-    done(headend, ack, c + grants.total, grants.count)
+    Issuing {
+        headend: moved_to(headend, ack, c + plan.total, plan.pending),
+        answer: Ok(24 + 4 * headend.held),
+    }
 }

@@ -1,23 +1,29 @@
 // The plan of a MAP: which requests are granted, and its elements.
-ghost use Rattle.std.specs.Prelude.{◌≡◌, cond, ◌++◌, ◌+◌, ◌*◌, ◌≤◌, leb, length, take, drop};
-ghost use Rattle.issuing.specs.Plan.{granted, total, grants, pendings, elements_of};
+ghost use Rattle.std.specs.Prelude.{◌≡◌, cond, ◌++◌, ◌+◌, ◌≤◌, leb, length, take, drop};
+ghost use Rattle.issuing.specs.Plan.{granted, pending, total, grants, pendings, elements_of};
 ghost use Rattle.issuing.specs.Issue.{plan_fields};
-ghost use Rattle.issuing.specs.Scan.{first_held, message_by};
 
 use headend::{Headend, Request};
 use rules::{Element, Fields};
 use slots::MiniSlot;
-use writer::lay_out;
 
-// How many of the held requests are granted, and their mini-slots together.
+// What a plan grants and leaves pending, in held order, and the granted mini-slots together.
 #[derive(Clone, Copy)]
-pub(crate) struct Grants {
-    pub count: usize,
+pub(crate) struct Plan<'a> {
+    pub granted: &'a [Request],
+    pub pending: &'a [Request],
     pub total: u32,
 }
 
+// How many requests are granted, and their mini-slots together.
+#[derive(Clone, Copy)]
+struct Grants {
+    count: usize,
+    total: u32,
+}
+
 // Full sizes in held order, stopping at the first that would pass the room.
-pub(crate) fn grants_within(held: &[Request], room: u32) -> Grants
+fn grants_within(held: &[Request], room: u32) -> Grants
     ensures { (result.count ≡ length (granted room held.now)) × (result.total ≡ total (granted room held.now)) }
 {
     let mut left = room;
@@ -33,6 +39,20 @@ pub(crate) fn grants_within(held: &[Request], room: u32) -> Grants
     Grants {
         count: held.len(),
         total: room - left,
+    }
+}
+
+pub(crate) fn plan_within(held: &[Request], room: u32) -> Plan<'_>
+    ensures granted { result.granted.now ≡ granted room held.now }
+    ensures pending { result.pending.now ≡ pending room held.now }
+    ensures total { result.total ≡ total (granted room held.now) }
+{
+    let grants = grants_within(held, room);
+    let (granted, pending) = held.split_at(grants.count);
+    Plan {
+        granted,
+        pending,
+        total: grants.total,
     }
 }
 
@@ -76,7 +96,7 @@ fn put_pendings(pending: &[Request], offset: u32, out: &mut [Element])
     }
 }
 
-fn fields_of(h: Headend, ack: MiniSlot) -> Fields
+pub(crate) fn fields_of(h: Headend, ack: MiniSlot) -> Fields
     ensures { result ≡ plan_fields h ack.0 }
 {
     let start = h.next;
@@ -90,37 +110,24 @@ fn fields_of(h: Headend, ack: MiniSlot) -> Fields
     }
 }
 
-// The elements, in the first places: broadcast Request of c, the first g requests granted, the Null, the others pending.
-fn elements_of(held: &[Request], short: u32, c: u32, g: usize) -> [Element; 66]
-    requires { (length held.now ≤ 64) × ((g ≤ length held.now) × (c + total (take g held.now) ≤ 4096)) }
-    ensures { take (length held.now + 2) result ≡ elements_of short c (take g held.now) (drop g held.now) }
+// The elements, in the first places: broadcast Request of c, the grants, the Null, the pendings.
+pub(crate) fn elements_of(plan: Plan, short: u32, c: u32) -> [Element; 66]
+    requires { (length plan.granted.now + length plan.pending.now ≤ 64) × (c + total plan.granted.now ≤ 4096) }
+    ensures { take (length plan.entry.granted.now + length plan.entry.pending.now + 2) result ≡ elements_of short c plan.entry.granted.now plan.entry.pending.now }
 {
-    let (granted, pending) = held.split_at(g);
+    let g = plan.granted.len();
     // The first element, in each place until another is stored there.
     let mut elements = [Element {
         sid: 0x3FFF,
         iuc: 1,
         offset: 0,
     }; 66];
-    let length = put_grants(granted, short, c, &mut elements[1..]);
+    let length = put_grants(plan.granted, short, c, &mut elements[1..]);
     elements[g + 1] = Element {
         sid: 0,
         iuc: 7,
         offset: length,
     };
-    put_pendings(pending, length, &mut elements[g + 2..]);
+    put_pendings(plan.pending, length, &mut elements[g + 2..]);
     elements
-}
-
-// The MAP in an array of the headend's own; past its bytes there are zeros.
-pub(crate) fn make(h: Headend, ack: MiniSlot, c: u32, g: usize) -> [u8; 280]
-    requires { (h.held ≤ 64) × ((g ≤ h.held) × (c + total (first_held h g) ≤ 4096)) }
-    ensures { take (24 + 4 * h.held) result ≡ message_by h ack.0 c g }
-{
-    let held = h.held_requests();
-    let n = held.len() + 2;
-    let elements = elements_of(held, h.short, c, g);
-    let mut own = [0; 280];
-    lay_out(fields_of(h, ack), &elements[..n], &mut own);
-    own
 }

@@ -1,9 +1,9 @@
 // The calls on one headend: each puts its answer into the lent room and gives the headend
 // after it.
-use crate::numbers::{at_most, backoff_at, byte_at, column, number_at};
+use crate::numbers::{at_most, backoff_at, byte_at, number_at};
 use crate::print::{Room, backoff, hex, number, pair, refused, say};
 use crate::words;
-use headend::{Headend, Taken};
+use headend::{Headend, Request, Taken};
 use issuing::Issued;
 use rules::Backoff;
 use slots::MiniSlot;
@@ -11,8 +11,17 @@ use slots::MiniSlot;
 // A headend that no set-up has touched: all zeros.
 pub fn untouched() -> Headend {
     let zero = Backoff { start: 0, end: 0 };
-    let made = Headend::new(MiniSlot(0), 0, 0, zero, zero, 0);
-    made.headend
+    Headend {
+        next: MiniSlot(0),
+        ack: MiniSlot(0),
+        channel: 0,
+        count: 0,
+        ranging: zero,
+        data: zero,
+        short: 0,
+        held: 0,
+        requests: [Request::SPARE; 64],
+    }
 }
 
 pub fn call(h: Headend, word: u64, ns: &[u32], out: &mut Room, used: &mut usize) -> Headend {
@@ -31,15 +40,10 @@ pub fn call(h: Headend, word: u64, ns: &[u32], out: &mut Room, used: &mut usize)
 
 // The first places, three numbers each.
 fn print_places(h: Headend, places: u32, out: &mut Room, used: &mut usize) {
-    let sids = h.sids;
-    let sizes = h.sizes;
-    let firsts = h.firsts;
     let n = at_most(places as usize, 64);
-    let mut i = 0;
-    while i < n {
-        number(sids[i], out, used);
-        pair(sizes[i], firsts[i], out, used);
-        i += 1;
+    for q in &h.requests[..n] {
+        number(q.sid, out, used);
+        pair(q.size, q.first.0, out, used);
     }
 }
 
@@ -75,19 +79,27 @@ fn set_up(h: Headend, ns: &[u32], out: &mut Room, used: &mut usize) -> Headend {
         backoff_at(ns, 6, 7),
         number_at(ns, 8),
     );
-    let why = made.refusal;
-    if why.number != 0 {
-        refused(why, out, used);
-        return h;
+    match made {
+        Ok(made) => shown(made, made.held, out, used),
+        Err(why) => {
+            refused(why, out, used);
+            h
+        }
     }
-    shown(made.headend, made.headend.held, out, used)
 }
 
-// One of the three columns of held requests.
-fn held(ns: &[u32], from: usize) -> [u32; 64] {
-    let mut held = [0u32; 64];
-    column(ns, from, &mut held);
-    held
+// A place for each three numbers.
+fn requests(ns: &[u32]) -> [Request; 64] {
+    let mut requests = [Request::SPARE; 64];
+    for (k, q) in requests.iter_mut().enumerate() {
+        let at = 11 + 3 * k;
+        *q = Request {
+            sid: number_at(ns, at),
+            size: number_at(ns, at + 1),
+            first: MiniSlot(number_at(ns, at + 2)),
+        };
+    }
+    requests
 }
 
 fn holding(ns: &[u32]) -> Headend {
@@ -100,9 +112,7 @@ fn holding(ns: &[u32]) -> Headend {
         data: backoff_at(ns, 7, 8),
         short: number_at(ns, 9),
         held: number_at(ns, 10),
-        sids: held(ns, 11),
-        sizes: held(ns, 12),
-        firsts: held(ns, 13),
+        requests: requests(ns),
     }
 }
 

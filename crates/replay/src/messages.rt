@@ -1,9 +1,9 @@
 // The calls on messages and on times: each puts its answer into the lent room.
-use crate::numbers::{at_most, backoff_at, behind, byte_at, column, number_at};
+use crate::numbers::{at_most, backoff_at, behind, byte_at, number_at};
 use crate::print::{Room, backoff, hex, none, number, pair, refused, say};
 use crate::words;
 use message::{Granted, Reading, Verdict};
-use rules::{Fields, Refusal};
+use rules::{Element, Fields, Refusal};
 use slots::{Begins, MiniSlot, Span};
 use writer::Written;
 
@@ -60,25 +60,27 @@ fn fields_in(ns: &[u32]) -> Fields {
     }
 }
 
-// One of the three columns of elements.
-fn parts(ns: &[u32], from: usize) -> [u32; 241] {
-    let mut parts = [0u32; 241];
-    column(ns, from, &mut parts);
-    parts
+// An element for each three numbers.
+fn elements(ns: &[u32]) -> [Element; 241] {
+    let mut elements = [Element {
+        sid: 0,
+        iuc: 0,
+        offset: 0,
+    }; 241];
+    for (k, e) in elements.iter_mut().enumerate() {
+        let at = 9 + 3 * k;
+        *e = Element {
+            sid: number_at(ns, at),
+            iuc: number_at(ns, at + 1),
+            offset: number_at(ns, at + 2),
+        };
+    }
+    elements
 }
 
 fn written(ns: &[u32], lent: &mut [u8]) -> Written {
-    let sids = parts(ns, 9);
-    let uses = parts(ns, 10);
-    let offsets = parts(ns, 11);
     let n = at_most(behind(ns.len(), 9) / 3, 241);
-    writer::write(
-        fields_in(ns),
-        &sids[0..n],
-        &uses[0..n],
-        &offsets[0..n],
-        lent,
-    )
+    writer::write(fields_in(ns), &elements(ns)[..n], lent)
 }
 
 fn wrote(answer: Written, out: &mut Room, used: &mut usize) {

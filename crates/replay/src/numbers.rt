@@ -66,17 +66,3 @@ pub fn all_within(numbers: &[u32], from: usize, to: usize, most: u32) -> bool {
     }
     true
 }
-
-// Every third number from a place on, into the lent places; those without one stay.
-pub fn column(numbers: &[u32], from: usize, out: &mut [u32]) {
-    let mut at = from;
-    let mut i = 0;
-    while i < out.len() {
-        if numbers.len() <= at {
-            return;
-        }
-        out[i] = numbers[at];
-        at += 3;
-        i += 1;
-    }
-}

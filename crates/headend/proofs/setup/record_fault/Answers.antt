@@ -4,9 +4,6 @@ use Rattle.headend.proofs.setup.record_fault.Goals as goal
 pub returns-then-bad : goal.returns-then-bad
 returns-then-bad c = search ways
 
-pub returns-then-bad-2 : goal.returns-then-bad-2
-returns-then-bad-2 c = search ways
-
 pub returns-then-any_bad_sid : goal.returns-then-any_bad_sid
 returns-then-any_bad_sid c = search ways
 

@@ -4,8 +4,5 @@ use Rattle.headend.proofs.record.Headend.new.Goals as goal
 pub returns-then-bad : goal.returns-then-bad
 returns-then-bad c = search ways
 
-pub returns-then-bad-2 : goal.returns-then-bad-2
-returns-then-bad-2 c = search ways
-
 pub returns : goal.returns
 returns c = search ways

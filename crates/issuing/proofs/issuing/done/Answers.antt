@@ -1,5 +1,0 @@
-use Rattle.issuing.proofs.Issues.{answers}
-use Rattle.issuing.proofs.issuing.done.Goals as goal
-
-pub returns : goal.returns
-returns c = search answers
