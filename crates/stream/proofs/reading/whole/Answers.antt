@@ -6,6 +6,6 @@ pub loop-at-preserved : goal.loop-at-preserved
 loop-at-preserved g c = record {
   same_length = search rules;
   within = search rules;
-  came = came_more _ _ _ _ _ c.loop-at.invariant.within c.in-Bytes.ensures.within.0 _ _ _ c.loop-at.invariant.came c.in-Bytes.ensures.bytes.0;
+  came = came_more _ _ _ _ _ c.loop-at.invariant.within c.in_ok-n.ensures.within.0 _ _ _ c.loop-at.invariant.came c.in_ok-n.ensures.bytes.0;
   quiet = search rules;
 }
