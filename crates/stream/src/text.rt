@@ -7,6 +7,7 @@ use std::fmt;
 // More than any lent bytes.
 const TOO_MANY: usize = 18446744073709551615;
 
+#[derive(Drop)]
 pub struct Text<'a> {
     pub bytes: &'a mut [u8],
     pub used: usize,
