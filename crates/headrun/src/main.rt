@@ -17,10 +17,7 @@ const LONGEST_LINE: usize = 256;
 
 fn tell<D: Display + Drop>(rt: &HostRuntime, line: D) -> Result<(), Failed> {
     let mut room = [0u8; LONGEST_LINE];
-    let mut out = Text {
-        bytes: &mut room,
-        used: 0,
-    };
+    let mut out = Text::new(&mut room);
     // Never fails: a text takes all that is written, and says itself that it had no room.
     let _ = writeln!(out, "{line}");
     stream::tell_line(

@@ -1,7 +1,7 @@
 // The calls on one headend: each puts its answer into the text, and the headend after it into its
 // place.
 use crate::bad::Bad;
-use crate::places::{backoff, column};
+use crate::numbers::{backoff, column};
 use crate::print::{Hex, OfHeadend, Refused};
 use crate::words::Word;
 use headend::{Headend, Taken};

@@ -8,6 +8,7 @@ mod bad;
 mod headends;
 mod line;
 mod messages;
+mod numbers;
 mod places;
 mod print;
 mod stations;
@@ -36,10 +37,7 @@ fn answered(places: &mut Places, line: &[u8], out: &mut Text) -> Result<(), Bad>
 // One write for each line.
 fn replied(rt: &HostRuntime, places: &mut Places, line: &[u8]) -> Result<(), Failed> {
     let mut room = [0u8; ROOM];
-    let mut out = Text {
-        bytes: &mut room,
-        used: 0,
-    };
+    let mut out = Text::new(&mut room);
     if answered(places, line, &mut out).is_err() {
         out.put(b"bad");
     }

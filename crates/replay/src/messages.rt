@@ -1,6 +1,6 @@
 // The calls on messages and on times: each puts its answer into the text.
 use crate::bad::Bad;
-use crate::places::{backoff, column};
+use crate::numbers::{backoff, column};
 use crate::print::{Ends, Hex, Refused};
 use message::{Granted, Reading, Verdict};
 use rules::{Fields, Refusal};

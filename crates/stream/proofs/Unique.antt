@@ -11,6 +11,9 @@ use borrow.Fn.World
 use borrow.Fn.Kinds as Kinds'
 use denote.Triple.Clauses
 use Rattle.stream.specs.Reading.{Inside}
+use Rattle.stream.specs.contracts.text.Text.new as new'
+use Rattle.stream.proofs.text.Text.new.Reads as new
+use Rattle.stream.proofs.text.Text.new.Kinds as new_kinds
 use Rattle.stream.specs.contracts.text.Text.put as put'
 use Rattle.stream.proofs.text.Text.put.Reads as put
 use Rattle.stream.proofs.text.Text.put.Kinds as put_kinds
@@ -20,6 +23,9 @@ use Rattle.stream.proofs.text.Text.put_decimal.Kinds as put_decimal_kinds
 use Rattle.stream.specs.contracts.text.Text.put_hex as put-hex'
 use Rattle.stream.proofs.text.Text.put_hex.Reads as put-hex
 use Rattle.stream.proofs.text.Text.put_hex.Kinds as put_hex_kinds
+
+pub new_unique : (κs : Lifetimes.Lfts 1) (a : World.ArgsD new'.signature κs) (r r' : World.ResD new'.signature κs) (s s' : Clauses.AtExit (Kinds'.ended_of 1 new_kinds.ps new_kinds.r) κs) → new.Post κs a r s → new.Post κs a r' s' → (r.bytes.now ≡ r'.bytes.now) × (r.used ≡ r'.used)
+new_unique κs a r r' s s' p q = (p.0 ∙ sym q.0, p.1.0 ∙ sym q.1.0)
 
 pub put_unique : (κs : Lifetimes.Lfts 3) (a : World.ArgsD put'.signature κs) (r r' : World.ResD put'.signature κs) (s s' : Clauses.AtExit (Kinds'.ended_of 3 put_kinds.ps put_kinds.r) κs) → put.Post κs a r s → put.Post κs a r' s' → (s.0.now.bytes.now ≡ s'.0.now.bytes.now) × (s.0.now.used ≡ s'.0.now.used)
 put_unique κs a r r' s s' p q = (p.0 ∙ sym q.0, p.1 ∙ sym q.1)

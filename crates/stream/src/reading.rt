@@ -16,6 +16,7 @@ pub fn some<R: Read, E: Write>(
     ensures bytes { Came (R.remaining from.old) (R.remaining from.new) result input.new }
     ensures quiet { Quiet result errors.old errors.new }
 {
+    // No map_err: the check then loses that `errors`, which its closure has, is as it was.
     match from.read(input) {
         Ok(n) => Ok(n),
         Err(why) => Err(fail(errors, name, &why)),
@@ -23,6 +24,7 @@ pub fn some<R: Read, E: Write>(
 }
 
 // Reads until the lent bytes are full or the input ends, also from a pipe that trickles.
+#[tactic(auto, using(crate::proofs::Within::came_more))]
 pub fn whole<R: Read, E: Write>(
     from: &mut R,
     errors: &mut E,

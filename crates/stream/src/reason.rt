@@ -9,10 +9,7 @@ pub(crate) const ROOM: usize = 320;
 
 // The reason, put into the lent bytes; nothing, where it had no room.
 pub(crate) fn reason<'a>(why: &Error, room: &'a mut [u8]) -> &'a [u8] {
-    let mut text = Text {
-        bytes: room,
-        used: 0,
-    };
+    let mut text = Text::new(room);
     let _ = write!(text, "{why}");
     let Text { bytes, used } = text;
     let Some(said) = bytes.get(..used) else {

@@ -11,6 +11,7 @@ use std::io::{Error, Write};
 pub struct Failed;
 
 // A failure that has no errno. Where standard error can't be written there is nowhere left to say it.
+// `errors` and `name` stay two: each program would make a struct of them for one call.
 pub fn complain<E: Write>(errors: &mut E, name: &[u8], why: &[u8]) {
     let _ = errors.write_all(name);
     let _ = errors.write_all(b": ");
@@ -35,6 +36,7 @@ pub fn tell<W: Write, E: Write>(
     ensures bytes { OnOk result (Appends (W.contents to.old) (W.contents to.new) text.now) }
     ensures quiet { OnOk result (errors.new ≡ errors.old) }
 {
+    // No map_err: the check then loses that `errors`, which its closure has, is as it was.
     match to.write_all(text) {
         Ok(()) => Ok(()),
         Err(why) => Err(fail(errors, name, &why)),

@@ -1,11 +1,12 @@
 // Text put together in lent bytes, of which so many are used. A text that has no room is never cut:
 // it leaves the bytes as they were, and `used` over every room for good.
+ghost use Rattle.std.specs.Prelude.{◌≡◌};
 ghost use Rattle.stream.specs.Text.{Puts, decimal_of, hex_of};
 
 use std::fmt;
 
 // More than any lent bytes.
-const TOO_MANY: usize = 18446744073709551615;
+const TOO_MANY: usize = usize::MAX;
 
 #[derive(Drop)]
 pub struct Text<'a> {
@@ -14,6 +15,14 @@ pub struct Text<'a> {
 }
 
 impl<'a> Text<'a> {
+    pub fn new(bytes: &'a mut [u8]) -> Text<'a>
+        ensures bytes { result.bytes.now ≡ bytes.old }
+        ensures used { result.used ≡ 0 }
+        ensures same_reference { result.bytes.ghost_name ≡ bytes.entry.ghost_name }
+    {
+        Text { bytes, used: 0 }
+    }
+
     pub fn put(&mut self, text: &[u8])
         ensures { Puts self.old text.now self.new }
     {
@@ -26,6 +35,7 @@ impl<'a> Text<'a> {
         self.used = from + text.len();
     }
 
+    // As `write!` puts a number, with a promise of which digits they are.
     pub fn put_decimal(&mut self, n: u64)
         ensures { Puts self.old (decimal_of n) self.new }
     {
