@@ -14,8 +14,19 @@ use stream::Text;
 // A headend that no set-up has touched: all zeros.
 pub fn untouched() -> Headend {
     let zero = Backoff { start: 0, end: 0 };
-    let made = Headend::new(MiniSlot(0), 0, 0, zero, zero, 0);
-    made.headend
+    Headend {
+        next: MiniSlot(0),
+        ack: MiniSlot(0),
+        channel: 0,
+        count: 0,
+        ranging: zero,
+        data: zero,
+        short: 0,
+        held: 0,
+        sids: [0; 64],
+        sizes: [0; 64],
+        firsts: [0; 64],
+    }
 }
 
 pub fn call(headend: &mut Headend, word: Word, numbers: &[u32], out: &mut Text) -> Result<(), Bad> {

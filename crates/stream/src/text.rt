@@ -23,11 +23,12 @@ impl<'a> Text<'a> {
         Text { bytes, used: 0 }
     }
 
+    #[tactic(auto, using(crate::proofs::Putting::put_in))]
     pub fn put(&mut self, text: &[u8])
         ensures { Puts self.old text.now self.new }
     {
         let from = self.used;
-        if self.bytes.len() < from || self.bytes.len() - from < text.len() {
+        if self.bytes.len() < from.saturating_add(text.len()) {
             self.used = TOO_MANY;
             return;
         }
