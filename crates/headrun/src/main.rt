@@ -68,7 +68,7 @@ fn request(
 }
 
 // .. and after an issue into the lent room.
-fn issue_into(
+fn issue(
     rt: &HostRuntime,
     headend: Headend,
     ack: u32,
@@ -91,7 +91,7 @@ fn issue_into(
 }
 
 // .. with the bytes that stand in a room of so many then.
-fn issue<const ROOM: usize>(
+fn issue_in<const ROOM: usize>(
     rt: &HostRuntime,
     headend: Headend,
     ack: u32,
@@ -101,7 +101,7 @@ fn issue<const ROOM: usize>(
     requires { ROOM ≤ 28 }
 {
     let mut room = [0xAAu8; ROOM];
-    let headend = issue_into(rt, headend, ack, c, budget, &mut room)?;
+    let headend = issue(rt, headend, ack, c, budget, &mut room)?;
     tell(rt, Bytes(&room))?;
     Ok(headend)
 }
@@ -135,8 +135,8 @@ fn fresh(rt: &HostRuntime, h: Headend) -> Result<(), Failed> {
     request(rt, h, 5, 24, 959)?;
     request(rt, h, 5, 24, 960)?;
     request(rt, h, 5, 24, 961)?;
-    issue::<24>(rt, h, 959, 10, 10)?;
-    issue::<24>(rt, h, 961, 10, 10)?;
+    issue_in::<24>(rt, h, 959, 10, 10)?;
+    issue_in::<24>(rt, h, 961, 10, 10)?;
     Ok(())
 }
 
@@ -146,15 +146,15 @@ fn full(rt: &HostRuntime, h: Headend) -> Result<(), Failed> {
     request(rt, h, 65, 1, 975)?;
     request(rt, h, 5, 1, 975)?;
     let mut room = [0u8; 280];
-    let h = issue_into(rt, h, 980, 6, 30, &mut room)?;
+    let h = issue(rt, h, 980, 6, 30, &mut room)?;
     request(rt, h, 65, 1, 981)?;
     Ok(())
 }
 
 fn bad_plans(rt: &HostRuntime, h: Headend) -> Result<(), Failed> {
-    issue::<28>(rt, h, 980, 6, 4097)?;
-    issue::<28>(rt, h, 980, 0, 30)?;
-    issue::<28>(rt, h, 980, 31, 30)?;
+    issue_in::<28>(rt, h, 980, 6, 4097)?;
+    issue_in::<28>(rt, h, 980, 0, 30)?;
+    issue_in::<28>(rt, h, 980, 31, 30)?;
     Ok(())
 }
 
@@ -163,24 +163,24 @@ fn rolled(rt: &HostRuntime) -> Result<(), Failed> {
     let Some(h) = set_up(rt, 4294967290, 6)? else {
         return Ok(());
     };
-    let h = issue::<24>(rt, h, 4294967290, 10, 10)?;
+    let h = issue_in::<24>(rt, h, 4294967290, 10, 10)?;
     let h = request(rt, h, 7, 3, 4294967295)?;
-    issue::<28>(rt, h, 4, 6, 30)?;
+    issue_in::<28>(rt, h, 4, 6, 30)?;
     Ok(())
 }
 
 fn issues(rt: &HostRuntime, h: Headend) -> Result<(), Failed> {
     fresh(rt, h)?;
-    let h = issue::<24>(rt, h, 960, 10, 10)?;
-    let h = issue::<24>(rt, h, 960, 30, 30)?;
+    let h = issue_in::<24>(rt, h, 960, 10, 10)?;
+    let h = issue_in::<24>(rt, h, 960, 30, 30)?;
     full(rt, h)?;
     let h = request(rt, h, 5, 24, 975)?;
     request(rt, h, 5, 24, 976)?;
     // The room is one byte short, and stays as it was.
-    issue::<27>(rt, h, 980, 6, 30)?;
+    issue_in::<27>(rt, h, 980, 6, 30)?;
     bad_plans(rt, h)?;
-    issue::<28>(rt, h, 980, 6, 30)?;
-    issue::<28>(rt, h, 980, 6, 29)?;
+    issue_in::<28>(rt, h, 980, 6, 30)?;
+    issue_in::<28>(rt, h, 980, 6, 29)?;
     Ok(())
 }
 
