@@ -2,33 +2,35 @@
 // enough to know that an input is too long.
 #![tactic(auto)]
 
-use stream::Input;
+use stream::Failed;
 
 // ROOM is enough for every input; were it not, that would be said.
-fn told(rt: &HostRuntime, input: &[u8]) {
+fn told(rt: &HostRuntime, input: &[u8]) -> Result<(), Failed> {
     let mut out = [0u8; report::ROOM];
-    match report::report(input, &mut out) {
-        Ok(length) => {
-            stream::tell(
-                &mut rt.stdout(),
-                &mut rt.stderr(),
-                b"mapspan: standard output",
-                &out[..length],
-            );
-        }
-        Err(_) => stream::complain(&mut rt.stderr(), b"mapspan", b"no room for the report"),
-    }
+    let Ok(length) = report::report(input, &mut out) else {
+        stream::complain(&mut rt.stderr(), b"mapspan", b"no room for the report");
+        return Err(Failed);
+    };
+    stream::tell(
+        &mut rt.stdout(),
+        &mut rt.stderr(),
+        b"mapspan: standard output",
+        &out[..length],
+    )
 }
 
-fn main(rt: HostRuntime) {
+fn run(rt: &HostRuntime) -> Result<(), Failed> {
     let mut input = [0u8; 65537];
-    let Input::Bytes(n) = stream::whole(
+    let n = stream::whole(
         &mut rt.stdin(),
         &mut rt.stderr(),
         b"mapspan: standard input",
         &mut input,
-    ) else {
-        return;
-    };
-    told(&rt, &input[..n]);
+    )?;
+    told(rt, &input[..n])
+}
+
+// A failure was said, and makes no exit status.
+fn main(rt: HostRuntime) {
+    let _ = run(&rt);
 }

@@ -1,12 +1,14 @@
-// The calls on one headend: each puts its answer into the lent room and gives the headend
-// after it.
-use crate::numbers::{at_most, backoff_at, byte_at, number_at};
-use crate::print::{Room, backoff, hex, number, pair, refused, say};
-use crate::words;
-use headend::{Headend, Request, Taken};
-use issuing::Issued;
+// The calls on one headend: each puts its answer into the text, and the headend after it into its
+// place.
+use crate::bad::Bad;
+use crate::numbers::{backoff, triples};
+use crate::print::{Hex, OfHeadend, Refused};
+use crate::words::Word;
+use headend::{Headend, Request};
 use rules::Backoff;
 use slots::MiniSlot;
+use std::fmt::Write;
+use stream::Text;
 
 // A headend that no set-up has touched: all zeros.
 pub fn untouched() -> Headend {
@@ -24,139 +26,106 @@ pub fn untouched() -> Headend {
     }
 }
 
-pub fn call(h: Headend, word: u64, ns: &[u32], out: &mut Room, used: &mut usize) -> Headend {
+pub fn call(headend: &mut Headend, word: Word, numbers: &[u32], out: &mut Text) -> Result<(), Bad> {
     match word {
-        words::HEADEND => set_up(h, ns, out, used),
-        words::HOLDING => {
-            let h = holding(ns);
-            shown(h, h.held, out, used)
+        Word::Headend => set_up(headend, numbers, out),
+        Word::Holding => holding(headend, numbers, out),
+        Word::Held => held(headend, numbers, out),
+        Word::Request => request(headend, numbers, out),
+        Word::Issue => issue(headend, numbers, out),
+        _ => Err(Bad),
+    }
+}
+
+// With the places that hold a request.
+fn whole(headend: &Headend) -> OfHeadend {
+    OfHeadend(*headend, headend.held as usize)
+}
+
+fn set_up(headend: &mut Headend, numbers: &[u32], out: &mut Text) -> Result<(), Bad> {
+    let [next, channel, count, rs, re, ds, de, short] = <[u32; 8]>::try_from(numbers)?;
+    let channel = u8::try_from(channel)?;
+    let count = u8::try_from(count)?;
+    let ranging = backoff(rs, re)?;
+    let data = backoff(ds, de)?;
+    match Headend::new(MiniSlot(next), channel, count, ranging, data, short) {
+        Ok(made) => {
+            *headend = made;
+            write!(out, "headend {}", whole(headend))?;
         }
-        words::REQUEST => request(h, ns, out, used),
-        words::ISSUE => issue(h, ns, out, used),
-        // Only `held` is left.
-        _ => shown(h, places_asked(h, ns), out, used),
+        Err(why) => write!(out, "{}", Refused(why))?,
     }
+    Ok(())
 }
 
-// The first places, three numbers each.
-fn print_places(h: Headend, places: u32, out: &mut Room, used: &mut usize) {
-    let n = at_most(places as usize, 64);
-    for q in &h.requests[..n] {
-        number(q.sid, out, used);
-        pair(q.size, q.first.0, out, used);
-    }
+// 64 triples at most.
+fn holding(headend: &mut Headend, numbers: &[u32], out: &mut Text) -> Result<(), Bad> {
+    let [
+        next,
+        ack,
+        channel,
+        count,
+        rs,
+        re,
+        ds,
+        de,
+        short,
+        held,
+        requests @ ..,
+    ] = numbers
+    else {
+        return Err(Bad);
+    };
+    *headend = Headend {
+        next: MiniSlot(*next),
+        ack: MiniSlot(*ack),
+        channel: u8::try_from(*channel)?,
+        count: u8::try_from(*count)?,
+        ranging: backoff(*rs, *re)?,
+        data: backoff(*ds, *de)?,
+        short: *short,
+        held: *held,
+        requests: triples(requests, Request::SPARE)?.0,
+    };
+    write!(out, "headend {}", whole(headend))?;
+    Ok(())
 }
 
-fn print(h: Headend, places: u32, out: &mut Room, used: &mut usize) {
-    pair(h.next.0, h.ack.0, out, used);
-    pair(h.channel as u32, h.count as u32, out, used);
-    backoff(h.ranging, out, used);
-    backoff(h.data, out, used);
-    pair(h.short, h.held, out, used);
-    print_places(h, places, out, used);
-}
-
-fn shown(headend: Headend, places: u32, out: &mut Room, used: &mut usize) -> Headend {
-    say(words::HEADEND, out, used);
-    print(headend, places, out, used);
-    headend
-}
-
-// As many as the line says, spare ones too; else those that hold a request.
-fn places_asked(h: Headend, ns: &[u32]) -> u32 {
-    if ns.len() < 2 {
-        return h.held;
-    }
-    number_at(ns, 1)
-}
-
-fn set_up(h: Headend, ns: &[u32], out: &mut Room, used: &mut usize) -> Headend {
-    let made = Headend::new(
-        MiniSlot(number_at(ns, 1)),
-        byte_at(ns, 2),
-        byte_at(ns, 3),
-        backoff_at(ns, 4, 5),
-        backoff_at(ns, 6, 7),
-        number_at(ns, 8),
-    );
-    match made {
-        Ok(made) => shown(made, made.held, out, used),
-        Err(why) => {
-            refused(why, out, used);
-            h
+// As many places as the line says, spare ones too; else those that hold a request.
+fn held(headend: &Headend, numbers: &[u32], out: &mut Text) -> Result<(), Bad> {
+    match numbers {
+        [] => write!(out, "headend {}", whole(headend))?,
+        [places] if *places <= 64 => {
+            write!(out, "headend {}", OfHeadend(*headend, *places as usize))?
         }
+        _ => return Err(Bad),
     }
+    Ok(())
 }
 
-// A place for each three numbers.
-fn requests(ns: &[u32]) -> [Request; 64] {
-    let mut requests = [Request::SPARE; 64];
-    for (k, q) in requests.iter_mut().enumerate() {
-        let at = 11 + 3 * k;
-        *q = Request {
-            sid: number_at(ns, at),
-            size: number_at(ns, at + 1),
-            first: MiniSlot(number_at(ns, at + 2)),
-        };
+fn request(headend: &mut Headend, numbers: &[u32], out: &mut Text) -> Result<(), Bad> {
+    let [sid, size, first] = <[u32; 3]>::try_from(numbers)?;
+    let taking = headend.request(sid, size, MiniSlot(first));
+    *headend = taking.headend;
+    match taking.answer {
+        Ok(()) => out.put(b"taken"),
+        Err(why) => write!(out, "{}", Refused(why))?,
     }
-    requests
-}
-
-fn holding(ns: &[u32]) -> Headend {
-    Headend {
-        next: MiniSlot(number_at(ns, 1)),
-        ack: MiniSlot(number_at(ns, 2)),
-        channel: byte_at(ns, 3),
-        count: byte_at(ns, 4),
-        ranging: backoff_at(ns, 5, 6),
-        data: backoff_at(ns, 7, 8),
-        short: number_at(ns, 9),
-        held: number_at(ns, 10),
-        requests: requests(ns),
-    }
-}
-
-fn taken(answer: Taken, out: &mut Room, used: &mut usize) {
-    match answer {
-        Taken::Taken => say(words::TAKEN, out, used),
-        Taken::Refused(why) => refused(why, out, used),
-    }
-}
-
-fn request(h: Headend, ns: &[u32], out: &mut Room, used: &mut usize) -> Headend {
-    let first = MiniSlot(number_at(ns, 3));
-    let taking = h.request(number_at(ns, 1), number_at(ns, 2), first);
-    let answer = taking.answer;
-    taken(answer, out, used);
-    print(taking.headend, taking.headend.held, out, used);
-    taking.headend
-}
-
-fn sized(answer: Issued, out: &mut Room, used: &mut usize) {
-    match answer {
-        Issued::Size(size) => {
-            say(words::ISSUED, out, used);
-            number(size, out, used);
-        }
-        Issued::Refused(why) => refused(why, out, used),
-    }
+    write!(out, " {}", whole(headend))?;
+    Ok(())
 }
 
 // The answer, and what the lent bytes hold then.
-fn issued(answer: Issued, lent: &[u8], out: &mut Room, used: &mut usize) {
-    sized(answer, out, used);
-    say(words::SPACE, out, used);
-    hex(lent, out, used);
-}
-
-fn issue(h: Headend, ns: &[u32], out: &mut Room, used: &mut usize) -> Headend {
+fn issue(headend: &mut Headend, numbers: &[u32], out: &mut Text) -> Result<(), Bad> {
+    let [ack, c, budget, room] = <[u32; 4]>::try_from(numbers)?;
     let mut bytes = [0xA5u8; 1000];
-    let room = at_most(number_at(ns, 4) as usize, 1000);
-    let lent = &mut bytes[0..room];
-    let ack = MiniSlot(number_at(ns, 1));
-    let issuing = issuing::issue(h, ack, number_at(ns, 2), number_at(ns, 3), lent);
-    let answer = issuing.answer;
-    issued(answer, lent, out, used);
-    print(issuing.headend, issuing.headend.held, out, used);
-    issuing.headend
+    let lent = bytes.get_mut(..room as usize).ok_or(Bad)?;
+    let issuing = issuing::issue(*headend, MiniSlot(ack), c, budget, lent);
+    *headend = issuing.headend;
+    match issuing.answer {
+        Ok(size) => write!(out, "issued {size}")?,
+        Err(why) => write!(out, "{}", Refused(why))?,
+    }
+    write!(out, " {} {}", Hex(lent), whole(headend))?;
+    Ok(())
 }

@@ -1,216 +1,86 @@
 // A line of the script: a word, then numbers, then at most one hex token, with single spaces
 // between.
-ghost use Rattle.std.specs.Prelude.{◌≤◌, length};
+use crate::bad::Bad;
+use crate::words::Word;
 
-use crate::words::{UNKNOWN, with_letter};
-
-// The digits of the hex token begin at a place, which is the line's end where there is none. A line
-// of another form is one with an unknown word.
 #[derive(Clone, Copy)]
-pub struct Line {
-    pub word: u64,
-    pub hex: bool,
-    pub digits: usize,
-    pub count: usize,
-    pub numbers: [u32; 740],
+pub struct Line<'a> {
+    pub word: Word,
+    pub numbers: &'a [u32],
+    pub bytes: Option<&'a [u8]>,
 }
 
-// The bytes of a hex token, and how many there are: NO_BYTES where the token is none.
-#[derive(Clone, Copy)]
-pub struct Bytes {
-    pub size: usize,
-    pub bytes: [u8; 1000],
-}
-
-// A token of a line: where it ends, and what it is as a word and as a number.
-#[derive(Clone, Copy)]
-struct Token {
-    pub end: usize,
-    pub word: u64,
-    pub number: u64,
-}
-
-const LARGEST: u64 = 4294967295;
-
-const NO_NUMBER: u64 = 4294967296;
-
-const NO_BYTE: u32 = 256;
-
-pub const NO_BYTES: usize = 1001;
-
-// Where the bytes up to a stop end: at the next one, or with the last byte.
-pub fn end_before(s: &[u8], from: usize, stop: u8) -> usize
-    requires { from ≤ length s.now }
-    ensures { (from ≤ result) × (result ≤ length s.now) }
-{
-    let mut i = from;
-    while i < s.len() {
-        if s[i] == stop {
-            return i;
+// One to ten digits.
+fn number(token: &[u8]) -> Result<u32, Bad> {
+    if token.is_empty() || 10 < token.len() {
+        return Err(Bad);
+    }
+    let mut number: u32 = 0;
+    for digit in token {
+        if !digit.is_ascii_digit() {
+            return Err(Bad);
         }
-        i += 1;
+        let tens = number.checked_mul(10).ok_or(Bad)?;
+        number = tens.checked_add((*digit - b'0') as u32).ok_or(Bad)?;
     }
-    i
+    Ok(number)
 }
 
-// The letter at a place; 0 where the letters end before it.
-fn letter_at(s: &[u8], i: usize) -> u8 {
-    if i < s.len() {
-        return s[i];
+fn hex_digit(letter: u8) -> Result<u8, Bad> {
+    match letter {
+        b'0'..=b'9' => Ok(letter - b'0'),
+        b'a'..=b'f' => Ok(letter - b'a' + 10),
+        _ => Err(Bad),
     }
-    0
 }
 
-fn with_digit(number: u64, digit: u8) -> u64 {
-    if digit < b'0' {
-        return NO_NUMBER;
-    }
-    if b'9' < digit {
-        return NO_NUMBER;
-    }
-    if LARGEST < number {
-        return NO_NUMBER;
-    }
-    number * 10 + ((digit - b'0') as u64)
-}
-
-// What so many digits made: no number where there were none, or more than ten.
-fn number_of(number: u64, digits: usize) -> u64 {
-    if (digits == 0) | (10 < digits) {
-        return NO_NUMBER;
-    }
-    number
-}
-
-// 16 where the digit is none.
-fn hex_digit(digit: u8) -> u32 {
-    if digit < b'0' {
-        return 16;
-    }
-    if digit <= b'9' {
-        return (digit - b'0') as u32;
-    }
-    if digit < b'a' {
-        return 16;
-    }
-    if digit <= b'f' {
-        return ((digit - b'a') as u32) + 10;
-    }
-    16
-}
-
-fn byte_of(high: u8, low: u8) -> u32 {
-    let high = hex_digit(high);
-    let low = hex_digit(low);
-    if 15 < high {
-        return NO_BYTE;
-    }
-    if 15 < low {
-        return NO_BYTE;
-    }
-    high * 16 + low
-}
-
-// The bytes with one more; NO_BYTES from the first on that is none or has no room.
-fn with_byte(mut made: Bytes, byte: u32) -> Bytes {
-    let mut bytes = made.bytes;
-    let size = made.size;
-    if 255 < byte {
-        made.size = NO_BYTES;
-        return made;
-    }
-    if 1000 <= size {
-        made.size = NO_BYTES;
-        return made;
-    }
-    bytes[size] = byte as u8;
-    made.bytes = bytes;
-    made.size = size + 1;
-    made
-}
-
-// The bytes whose digits stand from a place to the line's end.
-pub fn bytes_of(line: &[u8], from: usize) -> Bytes {
-    let mut made = Bytes {
-        size: 0,
-        bytes: [0; 1000],
+// The bytes of a hex token, two digits each, put into the room.
+fn bytes_of<'a>(hex: Option<&[u8]>, room: &'a mut [u8]) -> Result<Option<&'a [u8]>, Bad> {
+    let Some(digits) = hex else {
+        return Ok(None);
     };
-    let mut i = from;
-    while i < line.len() {
-        made = with_byte(made, byte_of(letter_at(line, i), letter_at(line, i + 1)));
-        i += 2;
+    if digits.len() % 2 != 0 {
+        return Err(Bad);
     }
-    made
+    let bytes = room.get_mut(..digits.len() / 2).ok_or(Bad)?;
+    for (byte, pair) in bytes.iter_mut().zip(digits.chunks_exact(2)) {
+        *byte = hex_digit(pair[0])? << 4 | hex_digit(pair[1])?;
+    }
+    Ok(Some(bytes))
 }
 
-// The token from a place on.
-fn token_at(line: &[u8], from: usize) -> Token
-    requires { from ≤ length line.now }
-    ensures { (from ≤ result.end) × (result.end ≤ length line.now) }
-{
-    let end = end_before(line, from, b' ');
-    let mut word = 0;
-    let mut number = 0;
-    let mut i = from;
-    while i < end {
-        let letter = letter_at(line, i);
-        word = with_letter(word, letter);
-        number = with_digit(number, letter);
-        i += 1;
-    }
-    Token {
-        end,
-        word,
-        number: number_of(number, end - from),
-    }
-}
+impl<'a> Line<'a> {
+    pub const MOST_NUMBERS: usize = 740;
 
-// The line with one number more.
-fn with_number(mut line: Line, number: u64) -> Line {
-    let mut numbers = line.numbers;
-    let count = line.count;
-    if LARGEST < number {
-        line.word = UNKNOWN;
-        return line;
-    }
-    if 740 <= count {
-        line.word = UNKNOWN;
-        return line;
-    }
-    numbers[count] = number as u32;
-    line.numbers = numbers;
-    line.count = count + 1;
-    line
-}
+    pub const MOST_BYTES: usize = 1000;
 
-// The line with one token more: of its first letter, its number, and the place of its second letter.
-// One behind the hex token is passed over: the digits, up to the line's end, have a space then.
-fn with_token(mut line: Line, letter: u8, number: u64, second: usize) -> Line {
-    if line.hex {
-        return line;
+    // The numbers and the bytes are put into the lent rooms.
+    pub fn parse(
+        line: &[u8],
+        numbers: &'a mut [u32],
+        bytes: &'a mut [u8],
+    ) -> Result<Line<'a>, Bad> {
+        let mut tokens = line.split(|b| *b == b' ');
+        let word = Word::try_from(tokens.next().ok_or(Bad)?)?;
+        let mut count = 0;
+        let mut hex = None;
+        for token in tokens {
+            // Nothing stands behind the hex token.
+            if hex.is_some() {
+                return Err(Bad);
+            }
+            match token {
+                [b'x', digits @ ..] => hex = Some(digits),
+                _ => {
+                    *numbers.get_mut(count).ok_or(Bad)? = number(token)?;
+                    count += 1;
+                }
+            }
+        }
+        Ok(Line {
+            word,
+            numbers: numbers.get(..count).ok_or(Bad)?,
+            bytes: bytes_of(hex, bytes)?,
+        })
     }
-    if letter != b'x' {
-        return with_number(line, number);
-    }
-    line.hex = true;
-    line.digits = second;
-    line
-}
-
-pub fn parse(text: &[u8]) -> Line {
-    let first = token_at(text, 0);
-    let mut at = first.end;
-    let mut line = Line {
-        word: first.word,
-        hex: false,
-        digits: text.len(),
-        count: 0,
-        numbers: [0; 740],
-    };
-    while at < text.len() {
-        let token = token_at(text, at + 1);
-        line = with_token(line, letter_at(text, at + 1), token.number, at + 2);
-        at = token.end;
-    }
-    line
 }

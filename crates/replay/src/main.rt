@@ -4,7 +4,7 @@
 
 ghost use Rattle.std.specs.Prelude.{◌≡◌, length};
 
-mod forms;
+mod bad;
 mod headends;
 mod line;
 mod messages;
@@ -15,70 +15,50 @@ mod stations;
 mod tables;
 mod words;
 
-use forms::called;
-use line::{bytes_of, end_before, parse};
-use numbers::{first_bytes, first_numbers};
+use bad::Bad;
+use line::Line;
 use places::Places;
-use print::{Room, say};
-use stream::Input;
+use stream::{Failed, Text};
 
 const MOST_INPUT: usize = 1048576;
 
-// The places after a line, and whether its answer was written.
-#[derive(Clone, Copy)]
-struct Reply {
-    pub places: Places,
-    pub told: bool,
+// The longest answer is that of a refused `issue`: 7 letters, 2 numbers of at most 11 bytes with
+// their space, ` x` and 2,000 digits, the headend's 4 numbers of 11 bytes, its 6 of 4 and 64 times 3
+// of 11, and the line's end, in all 4,212.
+const ROOM: usize = 8192;
+
+fn answered(places: &mut Places, line: &[u8], out: &mut Text) -> Result<(), Bad> {
+    let mut numbers = [0u32; Line::MOST_NUMBERS];
+    let mut bytes = [0u8; Line::MOST_BYTES];
+    let line = Line::parse(line, &mut numbers, &mut bytes)?;
+    places.call(line, out)
 }
 
-fn told(rt: &HostRuntime, out: &Room, used: usize) -> bool {
+// One write for each line.
+fn replied(rt: &HostRuntime, places: &mut Places, line: &[u8]) -> Result<(), Failed> {
+    let mut room = [0u8; ROOM];
+    let mut out = Text::new(&mut room);
+    if answered(places, line, &mut out).is_err() {
+        out.put(b"bad");
+    }
+    out.put(b"\n");
     stream::tell_line(
         &mut rt.stdout(),
         &mut rt.stderr(),
         b"replay: standard output",
-        out,
-        used,
+        &out,
     )
 }
 
-// The places after one line.
-fn answered(places: Places, line: &[u8], out: &mut Room, used: &mut usize) -> Places {
-    let parsed = parse(line);
-    let given = bytes_of(line, parsed.digits);
-    let numbers = parsed.numbers;
-    let bytes = given.bytes;
-    let ns = first_numbers(&numbers, parsed.count);
-    let word = called(parsed, given.size, ns);
-    places.call(word, ns, first_bytes(&bytes, given.size), out, used)
-}
-
-// One write for each line.
-fn replied(rt: &HostRuntime, places: Places, line: &[u8]) -> Reply {
-    let mut out: Room = [0; 8192];
-    let mut used = 0;
-    let places = answered(places, line, &mut out, &mut used);
-    say(words::LINE_END, &mut out, &mut used);
-    Reply {
-        places,
-        told: told(rt, &out, used),
-    }
-}
-
 // An empty line has no answer; where one can't be written, the run ends.
-fn run(rt: &HostRuntime, script: &[u8]) {
+fn run(rt: &HostRuntime, script: &[u8]) -> Result<(), Failed> {
     let mut places = Places::new();
-    let mut at = 0;
-    while at < script.len() {
-        let end = end_before(script, at, b'\n');
-        if at < end {
-            let reply = replied(rt, places, &script[at..end]);
-            if !reply.told {
-                return;
-            }
-            places = reply.places;
+    for line in script.split(|b| *b == b'\n') {
+        if !line.is_empty() {
+            replied(rt, &mut places, line)?;
         }
-        at = end + 1;
     }
+    Ok(())
 }
 
 // One byte more than a script may have is enough to know that it is too long. Its own function: a
@@ -89,20 +69,22 @@ fn input() -> [u8; 1048577]
     [0; 1048577]
 }
 
-fn main(rt: HostRuntime) {
+fn replay(rt: &HostRuntime) -> Result<(), Failed> {
     let mut input = input();
-    let Input::Bytes(n) = stream::whole(
+    let n = stream::whole(
         &mut rt.stdin(),
         &mut rt.stderr(),
         b"replay: standard input",
         &mut input,
-    ) else {
-        return;
-    };
+    )?;
     // Answered as one line that is no call.
     if MOST_INPUT < n {
-        run(&rt, b"bad");
-        return;
+        return run(rt, b"bad");
     }
-    run(&rt, &input[..n]);
+    run(rt, &input[..n])
+}
+
+// A failure was said, and makes no exit status.
+fn main(rt: HostRuntime) {
+    let _ = replay(&rt);
 }

@@ -1,158 +1,125 @@
-// The calls on messages and on times: each puts its answer into the lent room.
-use crate::numbers::{at_most, backoff_at, behind, byte_at, number_at};
-use crate::print::{Room, backoff, hex, none, number, pair, refused, say};
-use crate::words;
-use message::{Granted, Reading, Verdict};
-use rules::{Element, Fields, Refusal};
-use slots::{Begins, MiniSlot, Span};
-use writer::Written;
+// The calls on messages and on times: each puts its answer into the text.
+use crate::bad::Bad;
+use crate::numbers::{backoff, triples};
+use crate::print::{Ends, Hex, Refused};
+use message::Reading;
+use rules::{Element, Fields, Reason, Refusal};
+use slots::{MiniSlot, Span};
+use std::fmt;
+use std::fmt::Write;
+use stream::Text;
 
-pub fn call(word: u64, ns: &[u32], bytes: &[u8], out: &mut Room, used: &mut usize) {
-    match word {
-        words::READ => read(bytes, out, used),
-        words::AFTER => hex(message::after_null(bytes), out, used),
-        words::GRANT => grant(ns, bytes, out, used),
-        words::WRITE => write(ns, out, used),
-        words::BEGINS => begins(ns, out, used),
-        words::EARLIER => earlier(ns, out, used),
-        words::SPAN => span(ns, out, used),
-        _ => say(words::BAD, out, used),
-    }
-}
-
-fn read(bytes: &[u8], out: &mut Room, used: &mut usize) {
+pub fn read(numbers: &[u32], bytes: &[u8], out: &mut Text) -> Result<(), Bad> {
+    let [] = <[u32; 0]>::try_from(numbers)?;
     match message::read(bytes) {
-        Verdict::Accepted(reading) => map(reading, out, used),
-        Verdict::Refused(why) => refused(why, out, used),
+        Ok(reading) => map(reading, out)?,
+        Err(why) => write!(out, "{}", Refused(why))?,
     }
+    Ok(())
 }
 
-fn map(reading: Reading, out: &mut Room, used: &mut usize) {
+fn map(reading: Reading, out: &mut Text) -> fmt::Result {
     let fields = reading.fields;
-    say(words::MAP, out, used);
-    pair(fields.channel as u32, fields.count as u32, out, used);
-    number(reading.n, out, used);
-    pair(fields.start.0, fields.ack.0, out, used);
-    backoff(fields.ranging, out, used);
-    backoff(fields.data, out, used);
-    pair(reading.null, reading.length, out, used);
+    write!(out, "map {} {} ", fields.channel, fields.count)?;
+    write!(out, "{} {} {} ", reading.n, fields.start.0, fields.ack.0)?;
+    write!(out, "{} {} ", Ends(fields.ranging), Ends(fields.data))?;
+    write!(out, "{} {}", reading.null, reading.length)
 }
 
-fn grant(ns: &[u32], bytes: &[u8], out: &mut Room, used: &mut usize) {
-    match message::grant(bytes, number_at(ns, 0), number_at(ns, 1)) {
-        Granted::At { first, length } => {
-            say(words::GRANT, out, used);
-            pair(first.0, length, out, used);
-        }
-        Granted::Nowhere => say(words::NONE, out, used),
-        Granted::Refused(why) => refused(why, out, used),
+pub fn after(numbers: &[u32], bytes: &[u8], out: &mut Text) -> Result<(), Bad> {
+    let [] = <[u32; 0]>::try_from(numbers)?;
+    write!(out, "{}", Hex(message::after_null(bytes)))?;
+    Ok(())
+}
+
+pub fn grant(numbers: &[u32], bytes: &[u8], out: &mut Text) -> Result<(), Bad> {
+    let [sid, k] = <[u32; 2]>::try_from(numbers)?;
+    match message::grant(bytes, sid, k) {
+        Ok(Some(granted)) => write!(out, "grant {} {}", granted.first.0, granted.length)?,
+        Ok(None) => out.put(b"none"),
+        Err(why) => write!(out, "{}", Refused(why))?,
     }
+    Ok(())
 }
 
-fn fields_in(ns: &[u32]) -> Fields {
-    Fields {
-        channel: byte_at(ns, 1),
-        count: byte_at(ns, 2),
-        start: MiniSlot(number_at(ns, 3)),
-        ack: MiniSlot(number_at(ns, 4)),
-        ranging: backoff_at(ns, 5, 6),
-        data: backoff_at(ns, 7, 8),
-    }
-}
-
-// An element for each three numbers.
-fn elements(ns: &[u32]) -> [Element; 241] {
-    let mut elements = [Element {
-        sid: 0,
-        iuc: 0,
-        offset: 0,
-    }; 241];
-    for (k, e) in elements.iter_mut().enumerate() {
-        let at = 9 + 3 * k;
-        *e = Element {
-            sid: number_at(ns, at),
-            iuc: number_at(ns, at + 1),
-            offset: number_at(ns, at + 2),
-        };
-    }
-    elements
-}
-
-fn written(ns: &[u32], lent: &mut [u8]) -> Written {
-    let n = at_most(behind(ns.len(), 9) / 3, 241);
-    writer::write(fields_in(ns), &elements(ns)[..n], lent)
-}
-
-fn wrote(answer: Written, out: &mut Room, used: &mut usize) {
-    match answer {
-        Written::Size(size) => {
-            say(words::WROTE, out, used);
-            number(size, out, used);
-        }
-        Written::Refused(why) => refused(why, out, used),
-    }
-}
+const NO_ELEMENT: Element = Element {
+    sid: 0,
+    iuc: 0,
+    offset: 0,
+};
 
 // The answer, and then what the lent bytes hold.
-fn write(ns: &[u32], out: &mut Room, used: &mut usize) {
+pub fn write(numbers: &[u32], out: &mut Text) -> Result<(), Bad> {
+    let [
+        room,
+        channel,
+        count,
+        start,
+        ack,
+        rs,
+        re,
+        ds,
+        de,
+        elements @ ..,
+    ] = numbers
+    else {
+        return Err(Bad);
+    };
+    let fields = Fields {
+        channel: u8::try_from(*channel)?,
+        count: u8::try_from(*count)?,
+        start: MiniSlot(*start),
+        ack: MiniSlot(*ack),
+        ranging: backoff(*rs, *re)?,
+        data: backoff(*ds, *de)?,
+    };
     let mut bytes = [0xA5u8; 1000];
-    let room = at_most(number_at(ns, 0) as usize, 1000);
-    let lent = &mut bytes[0..room];
-    wrote(written(ns, lent), out, used);
-    say(words::SPACE, out, used);
-    hex(lent, out, used);
-}
-
-fn begins(ns: &[u32], out: &mut Room, used: &mut usize) {
-    let slot = MiniSlot(number_at(ns, 0));
-    match slot.begins(number_at(ns, 1)) {
-        Begins::At(time) => {
-            say(words::BEGINS, out, used);
-            number(time.0, out, used);
-        }
-        Begins::Size => {
-            let why = Refusal {
-                number: Refusal::SIZE,
-                element: 0,
-            };
-            refused(why, out, used)
-        }
+    let lent = bytes.get_mut(..*room as usize).ok_or(Bad)?;
+    let (elements, n) = triples::<Element, 241>(elements, NO_ELEMENT)?;
+    match writer::write(fields, elements.get(..n).ok_or(Bad)?, lent) {
+        Ok(size) => write!(out, "wrote {size}")?,
+        Err(why) => write!(out, "{}", Refused(why))?,
     }
+    write!(out, " {}", Hex(lent))?;
+    Ok(())
 }
 
-fn earlier(ns: &[u32], out: &mut Room, used: &mut usize) {
-    let a = MiniSlot(number_at(ns, 0));
-    let b = MiniSlot(number_at(ns, 1));
-    if a.earlier(b) {
-        say(words::YES, out, used);
-        return;
+pub fn begins(numbers: &[u32], out: &mut Text) -> Result<(), Bad> {
+    let [slot, m] = <[u32; 2]>::try_from(numbers)?;
+    match MiniSlot(slot).begins(m) {
+        Some(time) => write!(out, "begins {}", time.0)?,
+        None => write!(out, "{}", Refused(Refusal::from(Reason::Size)))?,
     }
-    say(words::NO, out, used);
+    Ok(())
 }
 
-fn spanned(span: Span, out: &mut Room, used: &mut usize) {
-    say(words::SPAN, out, used);
-    match span {
-        Span::Over { earliest, latest } => {
-            pair(earliest.0, latest.0, out, used);
-        }
-        Span::Nothing => none(out, used),
-        Span::Lost => none(out, used),
+pub fn earlier(numbers: &[u32], out: &mut Text) -> Result<(), Bad> {
+    let [a, b] = <[u32; 2]>::try_from(numbers)?;
+    out.put(if MiniSlot(a).earlier(MiniSlot(b)) {
+        b"yes"
+    } else {
+        b"no"
+    });
+    Ok(())
+}
+
+// 300 pairs at most.
+pub fn span(numbers: &[u32], out: &mut Text) -> Result<(), Bad> {
+    if numbers.len() % 2 != 0 || 600 < numbers.len() {
+        return Err(Bad);
     }
-}
-
-fn span(ns: &[u32], out: &mut Room, used: &mut usize) {
     let mut span = Span::new();
     let mut left: u32 = 0;
-    let mut i = 0;
-    while i < ns.len() {
-        let added = span.add(MiniSlot(number_at(ns, i)), number_at(ns, i + 1));
-        if !added.taken {
-            left = std::num::wrapping_add_u32(left, 1);
+    for pair in numbers.chunks_exact(2) {
+        match span.add(MiniSlot(pair[0]), pair[1]) {
+            Some(wider) => span = wider,
+            None => left = left.saturating_add(1),
         }
-        span = added.span;
-        i += 2;
     }
-    spanned(span, out, used);
-    number(left, out, used);
+    match span {
+        Span::Over { earliest, latest } => write!(out, "span {} {}", earliest.0, latest.0)?,
+        Span::Nothing | Span::Lost => out.put(b"span none"),
+    }
+    write!(out, " {left}")?;
+    Ok(())
 }

@@ -1,68 +1,56 @@
-// The numbers that follow a line's word, looked up by their places, and the bytes. A number out of
-// the range that its place takes is brought into it, though such lines are kept out before.
-ghost use Rattle.std.specs.Prelude.{◌≤◌};
+// What a line's numbers say, beyond one number alone.
+use crate::bad::Bad;
+use headend::Request;
+use rules::{Backoff, Element};
+use slots::MiniSlot;
 
-use rules::Backoff;
-
-// The front of the numbers, as far as the line filled them.
-pub fn first_numbers(numbers: &[u32], n: usize) -> &[u32] {
-    if numbers.len() < n {
-        return numbers;
-    }
-    &numbers[0..n]
+// The place that the first number names, and the other numbers.
+pub fn at<'a, 'n, T>(
+    places: &'a mut [T],
+    numbers: &'n [u32],
+) -> Result<(&'a mut T, &'n [u32]), Bad> {
+    let (place, rest) = numbers.split_first().ok_or(Bad)?;
+    let place = places.get_mut(*place as usize).ok_or(Bad)?;
+    Ok((place, rest))
 }
 
-pub fn first_bytes(bytes: &[u8], n: usize) -> &[u8] {
-    if bytes.len() < n {
-        return bytes;
-    }
-    &bytes[0..n]
+pub fn backoff(start: u32, end: u32) -> Result<Backoff, Bad> {
+    Ok(Backoff {
+        start: u8::try_from(start)?,
+        end: u8::try_from(end)?,
+    })
 }
 
-pub fn at_most(n: usize, most: usize) -> usize
-    ensures { result ≤ most }
-{
-    if most < n {
-        return most;
-    }
-    n
+// What three numbers of a line say.
+pub trait Triple: Copy {
+    fn of(numbers: [u32; 3]) -> Self;
 }
 
-// How many of n are left behind the first ones.
-pub fn behind(n: usize, first: usize) -> usize {
-    if n < first {
-        return 0;
-    }
-    n - first
-}
-
-// The number at a place; 0 where the numbers end before it.
-pub fn number_at(numbers: &[u32], i: usize) -> u32 {
-    if i < numbers.len() {
-        return numbers[i];
-    }
-    0
-}
-
-pub fn byte_at(numbers: &[u32], i: usize) -> u8 {
-    (number_at(numbers, i) % 256) as u8
-}
-
-pub fn backoff_at(numbers: &[u32], start: usize, end: usize) -> Backoff {
-    Backoff {
-        start: byte_at(numbers, start),
-        end: byte_at(numbers, end),
+impl Triple for Element {
+    fn of([sid, iuc, offset]: [u32; 3]) -> Element {
+        Element { sid, iuc, offset }
     }
 }
 
-// Whether no number from one place up to another is over the most.
-pub fn all_within(numbers: &[u32], from: usize, to: usize, most: u32) -> bool {
-    let mut i = from;
-    while i < to {
-        if most < number_at(numbers, i) {
-            return false;
+impl Triple for Request {
+    fn of([sid, size, first]: [u32; 3]) -> Request {
+        Request {
+            sid,
+            size,
+            first: MiniSlot(first),
         }
-        i += 1;
     }
-    true
+}
+
+// The triples of some numbers, N at most, with `spare` behind them; and how many they are.
+pub fn triples<T: Triple, const N: usize>(numbers: &[u32], spare: T) -> Result<([T; N], usize), Bad> {
+    let n = numbers.len() / 3;
+    if numbers.len() % 3 != 0 || N < n {
+        return Err(Bad);
+    }
+    let mut all = [spare; N];
+    for (place, three) in all.iter_mut().zip(numbers.chunks_exact(3)) {
+        *place = T::of(<[u32; 3]>::try_from(three)?);
+    }
+    Ok((all, n))
 }

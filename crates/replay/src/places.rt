@@ -1,73 +1,69 @@
 // The numbered places, which keep stations and headends from call to call.
-use crate::forms::{Kept, kept_at};
-use crate::numbers::number_at;
-use crate::print::Room;
+use crate::bad::Bad;
+use crate::line::Line;
+use crate::numbers::at;
+use crate::words::Word;
 use crate::{headends, messages, stations, tables};
 use headend::Headend;
 use station::Station;
+use stream::Text;
 
-#[derive(Clone, Copy)]
+#[derive(Drop)]
 pub struct Places {
-    pub stations: [Station; 40],
-    pub headends: [Headend; 4],
+    stations: [Station; 40],
+    headends: [Headend; 4],
 }
 
 impl Places {
     pub fn new() -> Places {
-        let station = stations::untouched();
-        let headend = headends::untouched();
         Places {
-            stations: [station; 40],
-            headends: [headend; 4],
+            stations: [stations::untouched(); 40],
+            headends: [headends::untouched(); 4],
         }
     }
 
-    pub fn call(
-        self,
-        word: u64,
-        ns: &[u32],
+    pub fn call(&mut self, line: Line, out: &mut Text) -> Result<(), Bad> {
+        match line.bytes {
+            Some(bytes) => self.call_with_bytes(line.word, line.numbers, bytes, out),
+            None => self.call_without(line.word, line.numbers, out),
+        }
+    }
+
+    // Those whose line a hex token ends.
+    fn call_with_bytes(
+        &mut self,
+        word: Word,
+        numbers: &[u32],
         bytes: &[u8],
-        out: &mut Room,
-        used: &mut usize,
-    ) -> Places {
-        match kept_at(word) {
-            Kept::Station => self.at_station(word, ns, bytes, out, used),
-            Kept::Stations => self.at_stations(ns, bytes, out, used),
-            Kept::Headend => self.at_headend(word, ns, out, used),
-            Kept::Nothing => {
-                messages::call(word, ns, bytes, out, used);
-                self
+        out: &mut Text,
+    ) -> Result<(), Bad> {
+        match word {
+            Word::Read => messages::read(numbers, bytes, out),
+            Word::After => messages::after(numbers, bytes, out),
+            Word::Grant => messages::grant(numbers, bytes, out),
+            Word::Table => tables::hear(&mut self.stations, numbers, bytes, out),
+            Word::Hear => {
+                let (station, numbers) = at(&mut self.stations, numbers)?;
+                stations::hear(station, numbers, bytes, out)
+            }
+            _ => Err(Bad),
+        }
+    }
+
+    fn call_without(&mut self, word: Word, numbers: &[u32], out: &mut Text) -> Result<(), Bad> {
+        match word {
+            Word::Write => messages::write(numbers, out),
+            Word::Begins => messages::begins(numbers, out),
+            Word::Earlier => messages::earlier(numbers, out),
+            Word::Span => messages::span(numbers, out),
+            Word::Station | Word::Record | Word::Show | Word::Offer => {
+                let (station, numbers) = at(&mut self.stations, numbers)?;
+                stations::call(station, word, numbers, out)
+            }
+            _ => {
+                let (headend, numbers) = at(&mut self.headends, numbers)?;
+                headends::call(headend, word, numbers, out)
             }
         }
-    }
-
-    fn at_station(
-        mut self,
-        word: u64,
-        ns: &[u32],
-        bytes: &[u8],
-        out: &mut Room,
-        used: &mut usize,
-    ) -> Places {
-        let mut stations = self.stations;
-        let i = (number_at(ns, 0) % 40) as usize;
-        stations[i] = stations::call(stations[i], word, ns, bytes, out, used);
-        self.stations = stations;
-        self
-    }
-
-    fn at_stations(mut self, ns: &[u32], bytes: &[u8], out: &mut Room, used: &mut usize) -> Places {
-        let before = self.stations;
-        let stations = tables::call(before, ns, bytes, out, used);
-        self.stations = stations;
-        self
-    }
-
-    fn at_headend(mut self, word: u64, ns: &[u32], out: &mut Room, used: &mut usize) -> Places {
-        let mut headends = self.headends;
-        let i = (number_at(ns, 0) % 4) as usize;
-        headends[i] = headends::call(headends[i], word, ns, out, used);
-        self.headends = headends;
-        self
     }
 }

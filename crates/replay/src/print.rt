@@ -1,67 +1,123 @@
-// The parts of an answer, put into the lent room, of which so many bytes are used.
-use crate::words;
+// The parts of answers.
+use headend::Headend;
 use rules::{Backoff, Refusal};
+use slots::MiniSlot;
+use station::{Phase, Station};
+use std::fmt;
+use std::fmt::Display;
 
-// The longest answer is that of a refused `issue`: 7 letters, 2 numbers of at most 11 bytes with
-// their space, ` x` and 2,000 digits, the headend's 4 numbers of 11 bytes, its 6 of 4 and 64 times 3
-// of 11, and the line's end, in all 4,212.
-pub type Room = [u8; 8192];
+// What begins the answer of a call that is refused.
+#[derive(Drop)]
+pub struct Refused(pub Refusal);
 
-// The letters of a word, or another mark.
-pub fn say(word: u64, out: &mut Room, used: &mut usize) {
-    let mut letters = [0u8; 8];
-    let mut rest = word;
-    let mut from = 8;
-    while 0 < from {
-        if rest == 0 {
-            break;
+impl Display for Refused {
+    fn fmt<W: fmt::Write>(&self, f: &mut fmt::Formatter<W>) -> fmt::Result {
+        let Refusal { reason, element } = self.0;
+        write!(f, "refused {} {element}", reason.number())
+    }
+}
+
+// A hex token.
+#[derive(Drop)]
+pub struct Hex<'a>(pub &'a [u8]);
+
+impl Display for Hex<'_> {
+    fn fmt<W: fmt::Write>(&self, f: &mut fmt::Formatter<W>) -> fmt::Result {
+        f.write_str("x")?;
+        for byte in self.0 {
+            write!(f, "{byte:02x}")?;
         }
-        from -= 1;
-        letters[from] = (rest % 256) as u8;
-        rest = rest / 256;
-    }
-    stream::put(&letters[from..8], out, used);
-}
-
-// A space and the number.
-pub fn number(n: u32, out: &mut Room, used: &mut usize) {
-    say(words::SPACE, out, used);
-    stream::put_decimal(n as u64, out, used);
-}
-
-pub fn numbers(ns: &[u32], out: &mut Room, used: &mut usize) {
-    let mut i = 0;
-    while i < ns.len() {
-        number(ns[i], out, used);
-        i += 1;
+        Ok(())
     }
 }
 
-pub fn pair(a: u32, b: u32, out: &mut Room, used: &mut usize) {
-    number(a, out, used);
-    number(b, out, used);
-}
+// Each number behind a space.
+#[derive(Drop)]
+pub struct Numbers<'a>(pub &'a [u32]);
 
-pub fn backoff(b: Backoff, out: &mut Room, used: &mut usize) {
-    pair(b.start as u32, b.end as u32, out, used);
-}
-
-// In the place of a number.
-pub fn none(out: &mut Room, used: &mut usize) {
-    say(words::SPACE, out, used);
-    say(words::NONE, out, used);
-}
-
-pub fn hex(bytes: &[u8], out: &mut Room, used: &mut usize) {
-    say(words::HEX, out, used);
-    let mut i = 0;
-    while i < bytes.len() {
-        stream::put_hex(bytes[i], out, used);
-        i += 1;
+impl Display for Numbers<'_> {
+    fn fmt<W: fmt::Write>(&self, f: &mut fmt::Formatter<W>) -> fmt::Result {
+        for n in self.0 {
+            write!(f, " {n}")?;
+        }
+        Ok(())
     }
 }
 
-pub fn refused(why: Refusal, out: &mut Room, used: &mut usize) {
-    say(words::REFUSED, out, used);
-    pair(why.number, why.element, out, used);
+// START END
+#[derive(Drop)]
+pub struct Ends(pub Backoff);
+
+impl Display for Ends {
+    fn fmt<W: fmt::Write>(&self, f: &mut fmt::Formatter<W>) -> fmt::Result {
+        let Backoff { start, end } = self.0;
+        write!(f, "{start} {end}")
+    }
+}
+
+// KNOWN END
+#[derive(Drop)]
+struct Known(Option<MiniSlot>);
+
+impl Display for Known {
+    fn fmt<W: fmt::Write>(&self, f: &mut fmt::Formatter<W>) -> fmt::Result {
+        match self.0 {
+            None => f.write_str("0 0"),
+            Some(end) => write!(f, "1 {}", end.0),
+        }
+    }
+}
+
+// STATE SIZE EXPONENT LEFT RETRIES TIME: 0 where the phase has no such field.
+#[derive(Drop)]
+struct Fields(Phase);
+
+impl Display for Fields {
+    fn fmt<W: fmt::Write>(&self, f: &mut fmt::Formatter<W>) -> fmt::Result {
+        match self.0 {
+            Phase::Idle => f.write_str("0 0 0 0 0 0"),
+            Phase::Wanting { size } => write!(f, "1 {size} 0 0 0 0"),
+            Phase::Deferring {
+                exponent,
+                left,
+                retries,
+                size,
+            } => write!(f, "2 {size} {exponent} {left} {retries} 0"),
+            Phase::Waiting {
+                exponent,
+                retries,
+                time,
+                size,
+            } => write!(f, "3 {size} {exponent} 0 {retries} {}", time.0),
+        }
+    }
+}
+
+// STATION
+#[derive(Drop)]
+pub struct OfStation(pub Station);
+
+impl Display for OfStation {
+    fn fmt<W: fmt::Write>(&self, f: &mut fmt::Formatter<W>) -> fmt::Result {
+        let st = self.0;
+        write!(f, "{} {} {} {} ", st.sid, st.channel, st.count, st.r)?;
+        write!(f, "{} {}", Known(st.end), Fields(st.phase))
+    }
+}
+
+// HEADEND, with so many of its places for requests.
+#[derive(Drop)]
+pub struct OfHeadend(pub Headend, pub usize);
+
+impl Display for OfHeadend {
+    fn fmt<W: fmt::Write>(&self, f: &mut fmt::Formatter<W>) -> fmt::Result {
+        let h = self.0;
+        write!(f, "{} {} {} {} ", h.next.0, h.ack.0, h.channel, h.count)?;
+        write!(f, "{} {} ", Ends(h.ranging), Ends(h.data))?;
+        write!(f, "{} {}", h.short, h.held)?;
+        for q in h.requests.iter().take(self.1) {
+            write!(f, " {} {} {}", q.sid, q.size, q.first.0)?;
+        }
+        Ok(())
+    }
 }

@@ -25,7 +25,3 @@ module _ (used : ℕ) (text o : List ℕ) where
 -- once a text had no room none has, and the bytes stay
 pub stays_too_many : (text o : List ℕ) → length o < too_many → (o ≡ bytes_with too_many text o) × (too_many ≡ used_with too_many text o)
 stays_too_many text o h = left_out too_many text o (omega arith)
-
--- a text that was made elsewhere
-pub put_as : (used : ℕ) (o : List ℕ) {t u out : List ℕ} {now : ℕ} → t ≡ u → (out ≡ bytes_with used t o) × (now ≡ used_with used t o) → (out ≡ bytes_with used u o) × (now ≡ used_with used u o)
-put_as used o e p = rw (← e) p

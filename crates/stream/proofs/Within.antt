@@ -1,5 +1,5 @@
 -- What a caller learns of a count that came with an answer, and of reads that follow one another.
-use Rattle.std.specs.Prelude.{Option}
+use Rattle.std.specs.Prelude.{Option, Result, Ok}
 use mathlib.Core.Path.{◌≡◌, sym, ap, ◌∙◌}
 use mathlib.Core.List.{List, ◌++◌}
 use Prim.Native.Nat.{ℕ, ◌≤◌, ◌+◌}
@@ -9,11 +9,10 @@ use borrow.Rule.Slice.PartMut.{put_mid, post_of}
 use Rattle.std.specs.Io.KnownBytes.{Consumes}
 use Rattle.std.proofs.KnownBytes.{Consumes-trans}
 use Rattle.io.specs.Counts.{IsPrefixLen}
-use Rattle.stream.specs.declared.reading.Input.{Input}
-use Rattle.stream.specs.declared.reading.Input.TheVariants.{Bytes}
+use Rattle.stream.specs.declared.telling.Failed.{Failed}
 use Rattle.stream.specs.Reading.{Inside}
 
-pub counted : (r : Input) (n : ℕ) (xs : List ℕ) → Inside r xs → r ≡ Bytes n → IsPrefixLen n xs
+pub counted : (r : Result ℕ Failed) (n : ℕ) (xs : List ℕ) → Inside r xs → r ≡ Ok n → IsPrefixLen n xs
 counted r n xs p e = rw e at p
 
 pub counts : (n : ℕ) (xs : List ℕ) → n ≤ length xs → IsPrefixLen n xs

@@ -1,6 +1,7 @@
 -- Text put together in lent bytes before it is written.
-use Rattle.std.specs.Prelude.{ℕ, zero, suc, ◌+◌, ◌^◌, Bool, cond, List, ◌++◌, leb, ltb, length, take, drop}
+use Rattle.std.specs.Prelude.{◌≡◌, ℕ, zero, suc, ◌+◌, ◌^◌, Bool, cond, List, ◌++◌, leb, ltb, length, take, drop}
 use Rattle.io.specs.Digits.{last_digits}
+use Rattle.stream.specs.declared.text.Text.{Text}
 
 -- whether a text has room behind the used bytes
 abbrev pub fits : ℕ → List ℕ → List ℕ → Bool
@@ -16,6 +17,13 @@ too_many = 18446744073709551615
 
 unfoldable pub used_with : ℕ → List ℕ → List ℕ → ℕ
 used_with used text o = cond (fits used text o) (used + length text) too_many
+
+-- a text put into the same lent bytes
+abbrev pub Puts : Text → List ℕ → Text → Type 0
+Puts before text after =
+    (after.bytes.now ≡ bytes_with before.used text before.bytes.now)
+    × (after.used ≡ used_with before.used text before.bytes.now)
+    × (after.bytes.ghost_name ≡ before.bytes.ghost_name)
 
 -- the first number of digits from k on that hold n; so many more than k are tried at most
 unfoldable pub places_from : ℕ → ℕ → ℕ → ℕ → ℕ

@@ -7,6 +7,6 @@ mod reason;
 pub mod telling;
 pub mod text;
 
-pub use reading::{Input, some, whole};
-pub use telling::{complain, tell, tell_line};
-pub use text::{put, put_decimal, put_hex};
+pub use reading::{some, whole};
+pub use telling::{Failed, complain, tell, tell_line};
+pub use text::Text;

@@ -1,8 +1,0 @@
-use Rattle.std.proofs.Common.{◌-◌, ◌≤◌}
-use Rattle.replay.proofs.tables.draws_in.Given as goal
-
-abbrev pub invariant-loop-i : goal.invariant-loop-i
-invariant-loop-i l = l.i ≤ 40
-
-abbrev pub decreases-loop-i : goal.decreases-loop-i
-decreases-loop-i l = 40 - l.i

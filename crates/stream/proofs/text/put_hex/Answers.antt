@@ -1,7 +1,0 @@
-use Rattle.std.proofs.Common.{rules, ◌∙◌}
-use Rattle.stream.proofs.Numerals.{hex_made}
-use Rattle.stream.proofs.Putting.{put_as}
-use Rattle.stream.proofs.text.put_hex.Goals as goal
-
-pub returns : goal.returns
-returns c = let d = c.hex-k.ensures in put_as _ _ (d.digits ∙ hex_made _ _ (search rules) d.len) c.put.ensures
