@@ -2,7 +2,6 @@
 use crate::bad::Bad;
 use crate::print::Numbers;
 use lent::hear_forty;
-use rules::Reason;
 use slots::MiniSlot;
 use station::Station;
 use std::fmt::Write;
@@ -32,7 +31,10 @@ pub fn hear(
     let present = MiniSlot(*present);
     let heard = hear_forty(*stations, first, count, bytes, present, draws, answers);
     *stations = heard.stations;
-    let code = heard.answer.map_or_else(Reason::number, |()| 0);
+    let code = match heard.answer {
+        Ok(()) => 0,
+        Err(reason) => reason.number(),
+    };
     write!(out, "table {code}{}", Numbers(answers))?;
     Ok(())
 }
