@@ -10,14 +10,14 @@ use Rattle.slots.specs.Time.{earlier}
 use Rattle.station.specs.declared.record.Phase.{Phase}
 use Rattle.station.specs.declared.record.Phase.TheVariants.{Idle, Wanting, Deferring, Waiting}
 use Rattle.station.specs.declared.record.Station.{Station}
-use Rattle.hearing.specs.declared.answer.Answer.TheVariants as answer
-use Rattle.hearing.specs.declared.answer.Sent.{Sent}
 use Rattle.hearing.specs.Hearing.{hear_of}
 use Rattle.headend.specs.declared.record.Request.{Request}
 use Rattle.headend.specs.Requests.{held_of}
 use Rattle.channel.specs.History.{Issue, bytes_of, map_in, State, nobody, station_at}
 use Rattle.channel.specs.Claims.{HeldWaits, WaitingHeld}
 use Rattle.channel.proofs.Keeping.{clash, and_left, and_right}
+use Rattle.slots.specs.declared.time.MiniSlot.{MiniSlot}
+use Rattle.std.specs.Prelude.{Option, Ok}
 
 -- a phase that does not wait on a request sent at t
 abbrev elsewhere : ℕ → Phase → Bool
@@ -49,12 +49,12 @@ pub record Outlasts (s : State) (i : ℕ) (j : Issue) (q : Request) : Type 0 whe
   pub present : ℕ
   pub draw : ℕ
   pub bursts : ℕ
-  pub request : Sent
+  pub request : Option MiniSlot
   pub exponent : ℕ
   pub retries : ℕ
   pub inside : i < length s.stations
   pub issued : Memᴰ j s.issues
-  pub accepts : (hear_of (station_at s i) (bytes_of j) present draw).answer ≡ answer.Heard bursts request
+  pub accepts : (hear_of (station_at s i) (bytes_of j) present draw).answer ≡ Ok (record { bursts = bursts; request = request })
   pub waits : (hear_of (station_at s i) (bytes_of j) present draw).station.phase ≡ Waiting exponent retries q.first q.size
   pub passed : earlier 32 q.first.0 (map_in j).fields.ack.0 ≡ true
   pub its : q.sid ≡ (station_at s i).sid

@@ -21,6 +21,7 @@ use Rattle.issuing.proofs.Planned.{of_sid, grant_intervals, plan_intervals, plan
 use Rattle.issuing.proofs.Selfcheck.{plan_bounds, map_length_lem, map_plan, plan_fits}
 use Rattle.issuing.proofs.Tables.{next_issued}
 use Rattle.channel.specs.History.{Issue, map_in}
+use Rattle.std.specs.Prelude.{Ok}
 
 -- what a MAP grants, and what it leaves pending
 abbrev pub granted_by : Issue → List Request
@@ -50,7 +51,7 @@ pub record Contents (j : Issue) : Type 0 where
 pub ack_between : (h : Headend) (ack c budget room : ℕ) → Called h ack c budget room → ahead 32 h.ack.0 ack ≤ ahead 32 h.ack.0 h.next.0
 ack_between h ack c budget room p = ltb-false (ahead 32 h.ack.0 h.next.0) (ahead 32 h.ack.0 ack) p.acks
 
-pub issue_called : (h : Headend) (ack c budget room : ℕ) → issue_fault h ack c budget room ≡ 0 → Called h ack c budget room
+pub issue_called : (h : Headend) (ack c budget room : ℕ) → issue_fault h ack c budget room ≡ Ok tt → Called h ack c budget room
 unfolding issue_fault
 issue_called h ack c budget room e = called h ack c budget room (handed_on (call_fault h ack c budget room) _ e).0
 

@@ -9,15 +9,14 @@ use lib.Dec.{ltb, lit<}
 use borrow.Author.Tests.{ltb-true}
 use lib.ListN.{take}
 use Rattle.slots.specs.Time.{ahead, half}
-use Rattle.rules.specs.Refusals.{Room, number_of, refusal}
+use Rattle.rules.specs.declared.refusal.Reason.TheVariants.{Room}
+use Rattle.rules.specs.Refusals.{refusal}
 use Rattle.message.specs.Map.{end_of}
 use Rattle.station.specs.declared.record.Phase.TheVariants.{Idle, Waiting}
 use Rattle.station.specs.Offering as offering
-use Rattle.hearing.specs.declared.answer.Sent.TheVariants as sent
 use Rattle.headend.specs.declared.record.Request.{Request}
 use Rattle.headend.specs.Requests.{held_of}
 use Rattle.headend.specs.Records as records
-use Rattle.issuing.specs.declared.issuing.Issued.TheVariants as issued
 use Rattle.channel.specs.History.{Issue, map_in, Sending, State, station_at, Event, Offer, Issue', Hear, Deliver, Lose, asked, issuing, step, after}
 use Rattle.channel.specs.Claims.{FreshStation, Fresh, Within, Safe}
 use Rattle.channel.proofs.Computing.{rules}
@@ -25,6 +24,7 @@ use Rattle.channel.proofs.Keeping.{and_left, and_right, each_cons}
 use Rattle.channel.proofs.Claimed.{Outlasts, was_held}
 use Rattle.channel.proofs.Refusing.{no_room}
 use Rattle.channel.proofs.Spanning.{safe}
+use Rattle.std.specs.Prelude.{None, Err}
 
 -- a headend on channel 1, description 2, with this next start, and stations 5 and 6
 abbrev pub start_at : ℕ → State
@@ -91,7 +91,7 @@ computed = (refl, refl, refl, refl, refl, refl, refl, refl, refl, refl, refl, re
 -- one byte too few for one held: 11, and nothing changes
 pub crowded :
     let taken = after (take 4 served) start in
-    ((issuing (asked taken 4294967290 6 20) 27).answer ≡ issued.Refused (refusal (number_of Room) 0)) × (step taken (Issue' 4294967290 6 20 27) ≡ taken)
+    ((issuing (asked taken 4294967290 6 20) 27).answer ≡ Err (refusal Room 0)) × (step taken (Issue' 4294967290 6 20 27) ≡ taken)
 unfolding rules
 crowded = (refl, no_room (after (take 4 served) start) 4294967290 6 20 27 (lit< tt))
 
@@ -153,7 +153,7 @@ pending s = asked (after (take 7 pended) s) 4294967291 6 6
 
 pub pended_outlasts : Outlasts (after pended start) 1 (pending start) (request 6 4 4294967290)
 unfolding rules
-pended_outlasts = record { present = 4294967295; draw = 0; bursts = 0; request = sent.Nothing; exponent = 0; retries = 0; inside = lit< tt; issued = Memᴰ.head refl; accepts = refl; waits = refl; passed = refl; its = refl }
+pended_outlasts = record { present = 4294967295; draw = 0; bursts = 0; request = None; exponent = 0; retries = 0; inside = lit< tt; issued = Memᴰ.head refl; accepts = refl; waits = refl; passed = refl; its = refl }
 
 -- .. on the request that was held when the MAP was issued
 pub pended_held : Memᴰ (request 6 4 4294967290) (held_of (pending start).before)

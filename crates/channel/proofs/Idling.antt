@@ -11,11 +11,11 @@ use Rattle.slots.proofs.Rolling.{ahead_self}
 use Rattle.headend.specs.declared.record.Headend.{Headend}
 use Rattle.headend.specs.Requests.{spare}
 use Rattle.headend.specs.Records.{with_places}
-use Rattle.issuing.specs.declared.issuing.Issued.TheVariants as issued
 use Rattle.issuing.specs.Issue.{issue_of}
 use Rattle.channel.specs.History.{from, Issue, State, step, after, spent}
 use Rattle.channel.proofs.Computing.{rules}
 use Rattle.channel.proofs.Histories.{start_at, issue}
+use Rattle.std.specs.Prelude.{Ok}
 
 -- the headend of the histories, holding nothing, once these are its next start and Ack Time
 abbrev pub idle : ℕ → ℕ → Headend
@@ -51,7 +51,7 @@ module _ (ack : ℕ) where
   spent_idled (suc n) next js = spent_idled n (next + 4096) (longest next ∷ js) ∙ omega (arith, spent_longest next js)
 
   module _ (clock : ack < 4294967296) where
-    issue_idle : (next : ℕ) → next + 4096 < 4294967296 → issue_of (idle next ack) ack 4096 4096 280 ≡ record { headend = idle (next + 4096) ack; answer = issued.Size 24 }
+    issue_idle : (next : ℕ) → next + 4096 < 4294967296 → issue_of (idle next ack) ack 4096 4096 280 ≡ record { headend = idle (next + 4096) ack; answer = Ok 24 }
     unfolding rules
     issue_idle next h = let first = ahead_self 32 ack in rw (le-ltb (ahead 32 ack next) (ahead 32 ack ack) (omega arith), mod-eq_of_lt h) refl
 

@@ -11,8 +11,6 @@ use Rattle.rules.specs.Rules.{granting}
 use Rattle.message.specs.Map.{Interval, intervals, map_length}
 use Rattle.station.specs.declared.record.Phase.{Phase}
 use Rattle.station.specs.declared.record.Phase.TheVariants.{Waiting}
-use Rattle.station.specs.declared.record.Remembered.{Remembered}
-use Rattle.station.specs.declared.record.Remembered.TheVariants.{Nothing, End}
 use Rattle.station.specs.declared.record.Station.{Station}
 use Rattle.headend.specs.declared.record.Request.{Request}
 use Rattle.headend.specs.Requests.{held_of}
@@ -21,6 +19,8 @@ use Rattle.channel.proofs.Timing.{at}
 use Rattle.issuing.proofs.Planned.{of_sid}
 use Rattle.channel.proofs.Holding.{Places}
 use Rattle.channel.proofs.Contents.{granted_by, pending_by, Contents}
+use Rattle.std.specs.Prelude.{Option, Some, None}
+use Rattle.slots.specs.declared.time.MiniSlot.{MiniSlot}
 
 abbrev pub length_of : Issue → ℕ
 length_of j = map_length (map_in j).elements
@@ -76,9 +76,9 @@ module _ (B : ℕ) where
         of_sid σ (granted_by g) ≡ q ∷ [] → of_sid σ (pending_by g) ≡ [] → Window (Carried σ q d) e (start_of g) js → Window (Clear σ) (end_of g) N js → Case σ p e N h f js
 
   -- the remembered end, 0 before the first MAP
-  abbrev pub up_to : Remembered → ℕ
-  up_to Nothing = 0
-  up_to (End e) = at B e.0
+  abbrev pub up_to : Option MiniSlot → ℕ
+  up_to None = 0
+  up_to (Some e) = at B e.0
 
   abbrev pub heard_to : Station → ℕ
   heard_to st = up_to st.end

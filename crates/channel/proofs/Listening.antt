@@ -15,7 +15,6 @@ use Rattle.rules.specs.Rules.{granting}
 use Rattle.message.specs.Map.{Map, Interval, time_at}
 use Rattle.station.specs.declared.record.Phase.TheVariants.{Idle, Waiting}
 use Rattle.station.specs.declared.record.Station.{Station}
-use Rattle.hearing.specs.declared.answer.Sent.TheVariants.{Nothing, At}
 use Rattle.hearing.specs.Opportunities.{contention_in, own_in, contention, own}
 use Rattle.hearing.specs.Steps.{granted}
 use Rattle.hearing.specs.Hearing.{has_grant, has_pending, phase_after, request_in, station_after}
@@ -28,6 +27,7 @@ use Rattle.channel.proofs.Timing.{at, at_moved}
 use Rattle.channel.proofs.Keeping.{clash}
 use Rattle.channel.proofs.Contents.{asking, granted_by, pending_by, Contents}
 use Rattle.channel.proofs.Invariant.{start_of, Clear}
+use Rattle.std.specs.Prelude.{Some, None}
 
 -- the opportunities of a MAP for a station, by first mini-slot
 abbrev pub chances : Station → Map → List ℕ
@@ -38,17 +38,17 @@ abbrev pub sent_on : Station → Map → ℕ → List Request
 sent_on st m draw = request_by (station_after st m draw) (request_in st m draw)
 
 module _ (st : Station) (m : Map) (draw : ℕ) where
-  pub sent_none : request_in st m draw ≡ Nothing → sent_on st m draw ≡ []
+  pub sent_none : request_in st m draw ≡ None → sent_on st m draw ≡ []
   sent_none e = rw e refl
 
-  pub sent_one : (exponent retries : ℕ) (time : MiniSlot) (size : ℕ) → phase_after st m draw ≡ Waiting exponent retries time size → request_in st m draw ≡ At time →
+  pub sent_one : (exponent retries : ℕ) (time : MiniSlot) (size : ℕ) → phase_after st m draw ≡ Waiting exponent retries time size → request_in st m draw ≡ Some time →
       sent_on st m draw ≡ record { sid = st.sid; size = size; first = time } ∷ []
   unfolding station_after
   sent_one exponent retries time size w e = rw (e, w) refl
 
   -- as it was, and nothing sent
   abbrev pub Unmoved : ℕ → ℕ → MiniSlot → ℕ → Type 0
-  Unmoved exponent retries time size = (phase_after st m draw ≡ Waiting exponent retries time size) × (request_in st m draw ≡ Nothing)
+  Unmoved exponent retries time size = (phase_after st m draw ≡ Waiting exponent retries time size) × (request_in st m draw ≡ None)
 
 module _ (st : Station) (j : Issue) (draw : ℕ) (told : Contents j) where
   has_grant_lem : has_grant st (map_in j) ≡ not (is_empty (of_sid st.sid (granted_by j)))
@@ -81,7 +81,7 @@ module _ (st : Station) (j : Issue) (draw : ℕ) (told : Contents j) where
       go false g = hear_still st (map_in j) draw exponent retries time size g w (inl some)
 
   -- a grant and no pending
-  pub heard_grant : (q : Request) → of_sid st.sid (granted_by j) ≡ q ∷ [] → of_sid st.sid (pending_by j) ≡ [] → (phase_after st (map_in j) draw ≡ Idle) × (request_in st (map_in j) draw ≡ Nothing)
+  pub heard_grant : (q : Request) → of_sid st.sid (granted_by j) ≡ q ∷ [] → of_sid st.sid (pending_by j) ≡ [] → (phase_after st (map_in j) draw ≡ Idle) × (request_in st (map_in j) draw ≡ None)
   heard_grant q e f = hear_idle st (map_in j) draw (has_grant_lem ∙ rw e refl) (has_pending_lem ∙ rw f refl)
 
 -- a grant gives no opportunity

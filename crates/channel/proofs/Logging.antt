@@ -12,8 +12,6 @@ use Rattle.slots.specs.Time.{moved_on}
 use Rattle.rules.specs.Rules.{granting}
 use Rattle.message.specs.Map.{Map, Interval, intervals, grants_to, time_at}
 use Rattle.station.specs.declared.record.Station.{Station}
-use Rattle.hearing.specs.declared.answer.Sent.{Sent}
-use Rattle.hearing.specs.declared.answer.Sent.TheVariants.{Nothing, At}
 use Rattle.hearing.specs.Hearing.{has_grant, has_pending, phase_after, request_in, station_after}
 use Rattle.hearing.proofs.Heard.{Outcome, hear_granted, hear_outcome}
 use Rattle.hearing.proofs.Heard.Outcome.{silent, spoke}
@@ -27,6 +25,8 @@ use Rattle.channel.proofs.Contents.{asking, granted_by, Contents}
 use Rattle.channel.proofs.Invariant.{length_of, start_of, end_of, Covered}
 use Rattle.channel.proofs.Invariant.Covered.{in_contention, in_grant}
 use Rattle.channel.proofs.Listening.{chances, sent_on, chance_at}
+use Rattle.std.specs.Prelude.{Option, Some, None}
+use Rattle.slots.specs.declared.time.MiniSlot.{MiniSlot}
 
 grants_within : (short o : ℕ) (gs : List Request) (k : Interval) → Memᴰ k (grant_intervals short o gs) → (o ≤ k.first) × (k.first + k.length ≤ o + total gs)
 unfolding grant_intervals total
@@ -96,7 +96,7 @@ module _ (j : Issue) (told : Contents j) where
     unfolding station_after
     sent_covered draw single x m = go (has_grant st (map_in j)) refl
       where
-        nothing : request_in st (map_in j) draw ≡ Nothing → Covered B x j
+        nothing : request_in st (map_in j) draw ≡ None → Covered B x j
         nothing e = absurd (Memᴰ.not-nil (rw e at m))
 
         heard : Outcome 32 (has_pending st (map_in j)) (map_in j).fields.ack.0 (chances st (map_in j)) st.phase (phase_after st (map_in j) draw) (request_in st (map_in j) draw) → Covered B x j
@@ -115,6 +115,6 @@ pub sent_sid : (st : Station) (m : Map) (draw : ℕ) (q : Request) → Memᴰ q 
 unfolding station_after
 sent_sid st m draw q n = go (request_in st m draw) refl
   where
-    go : (s : Sent) → request_in st m draw ≡ s → q.sid ≡ st.sid
-    go Nothing e = absurd (Memᴰ.not-nil (rw e at n))
-    go (At t) e = ap (λ (z : Request). z.sid) (Memᴰ.eq_of_singleton (rw e at n))
+    go : (s : Option MiniSlot) → request_in st m draw ≡ s → q.sid ≡ st.sid
+    go None e = absurd (Memᴰ.not-nil (rw e at n))
+    go (Some t) e = ap (λ (z : Request). z.sid) (Memᴰ.eq_of_singleton (rw e at n))

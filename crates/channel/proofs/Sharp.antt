@@ -8,7 +8,6 @@ use lib.Dec.{lit<}
 use Rattle.message.specs.Reading.{map_of}
 use native.Mathlib.Omega.{arith}
 use Rattle.station.specs.Offering as offering
-use Rattle.hearing.specs.declared.answer.Sent.TheVariants as sent
 use Rattle.hearing.specs.Hearing.{hear_of}
 use Rattle.headend.specs.declared.record.Request.{Request}
 use Rattle.headend.specs.Requests.{held_of}
@@ -17,6 +16,7 @@ use Rattle.channel.specs.Claims.{GrantedAlone, HeldWaits, WaitingHeld}
 use Rattle.channel.proofs.Computing.{rules}
 use Rattle.channel.proofs.Claimed.{unawaited, held_alone, Outlasts, was_held}
 use Rattle.channel.proofs.Histories.{start, issue, request, sends, pended, pending}
+use Rattle.std.specs.Prelude.{None}
 
 -- other requests in flight than those that were sent
 abbrev with_flying : State → List Request → State
@@ -69,7 +69,7 @@ sids_differ = held_alone twins (request 5 4 4294967290) computed.0 computed.1
 -- .. and (c) fails of `pended`: the first hears the pending of the second, and goes on waiting on a request that was lost
 twins_outlast : Outlasts (after pended both_five) 0 (pending both_five) (request 5 3 4294967290)
 unfolding rules
-twins_outlast = record { present = 4294967295; draw = 0; bursts = 0; request = sent.Nothing; exponent = 0; retries = 0; inside = lit< tt; issued = mathlib.Core.List.Memᴰ.head refl; accepts = refl; waits = refl; passed = refl; its = refl }
+twins_outlast = record { present = 4294967295; draw = 0; bursts = 0; request = None; exponent = 0; retries = 0; inside = lit< tt; issued = mathlib.Core.List.Memᴰ.head refl; accepts = refl; waits = refl; passed = refl; its = refl }
 
 pub sids_differ_waiting : WaitingHeld (after pended both_five) → ⊥
 unfolding rules

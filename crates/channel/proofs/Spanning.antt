@@ -5,10 +5,9 @@ use mathlib.Core.List.{List, [], ◌∷◌, Memᴰ}
 use Prim.Native.Nat.{ℕ, ◌+◌, ◌%◌, ◌^◌, ◌≤◌, ◌<◌}
 use native.Mathlib.Nat.{mod-lt}
 use native.Mathlib.Omega.{arith}
-use lib.Dec.{ltb, eqb}
+use lib.Dec.{ltb}
 use lib.Pow.{pow_pos}
 use lib.ListN.{length}
-use borrow.Author.Tests.{eqb-true}
 use Rattle.slots.specs.Time.{moved_on}
 use Rattle.message.specs.Map.{end_of}
 use Rattle.headend.specs.declared.record.Headend.{Headend}
@@ -22,6 +21,8 @@ use Rattle.channel.proofs.Contents.{issue_called, contents, next_is, length_fits
 use Rattle.channel.proofs.Invariant.{length_of}
 use Rattle.channel.proofs.Start.{inv_fresh}
 use Rattle.channel.proofs.Theorem.{safe_spent}
+use Rattle.rules.specs.declared.refusal.Reason.{Reason}
+use Rattle.std.specs.Prelude.{Result, Ok, Err}
 
 -- the MAPs follow one another on the clock, however often it rolled over
 abbrev Linked : ℕ → List Issue → Type 0
@@ -33,23 +34,23 @@ Linking s = (s.headend.next.0 < 4294967296) × Linked s.headend.next.0 s.issues
 
 next_stays : (h : Headend) (q : Request) → (request_of h q).headend.next ≡ h.next
 unfolding request_of joined with_places
-next_stays h q = go (eqb (request_fault h q) 0) refl
+next_stays h q = go (request_fault h q) refl
   where
-    go : (b : Bool) → eqb (request_fault h q) 0 ≡ b → (request_of h q).headend.next ≡ h.next
-    go true e = rw e refl
-    go false e = rw e refl
+    go : (b : Result Unit Reason) → request_fault h q ≡ b → (request_of h q).headend.next ≡ h.next
+    go (Ok u) e = rw e refl
+    go (Err why) e = rw e refl
 
 linking_issue : (s : State) (ack c budget room : ℕ) → Linking s → Linking (step s (Issue' ack c budget room))
 unfolding step issue_of
-linking_issue s ack c budget room l = go (eqb (issue_fault s.headend (ack % 2 ^ 32) c budget room) 0) refl
+linking_issue s ack c budget room l = go (issue_fault s.headend (ack % 2 ^ 32) c budget room) refl
   where
     j : Issue
     j = asked s ack c budget
 
-    go : (b : Bool) → eqb (issue_fault s.headend (ack % 2 ^ 32) c budget room) 0 ≡ b → Linking (step s (Issue' ack c budget room))
-    go false e = rw e l
-    go true e =
-        let ok = issue_called s.headend (ack % 2 ^ 32) c budget room (eqb-true _ 0 e) in
+    go : (b : Result Unit Reason) → issue_fault s.headend (ack % 2 ^ 32) c budget room ≡ b → Linking (step s (Issue' ack c budget room))
+    go (Err why) e = rw e l
+    go (Ok u) e =
+        let ok = issue_called s.headend (ack % 2 ^ 32) c budget room e in
         let fits = mod-lt ack (pow_pos 32) in
         let told = contents j room ok l.0 fits in
         let next = next_is j room ok l.0 fits in

@@ -12,9 +12,7 @@ use Rattle.message.specs.Lists.{listed}
 use Rattle.rules.specs.Sids.{unicast}
 use Rattle.rules.specs.Backoffs.{bad_backoff}
 use Rattle.rules.specs.Refusals.{refusal}
-use Rattle.station.specs.declared.record.Remembered.TheVariants.{Nothing}
 use Rattle.station.specs.declared.record.Station.{Station}
-use Rattle.station.specs.declared.record.SetUp.TheVariants as set_up
 use Rattle.station.specs.Records.{bad_r}
 use Rattle.station.specs.Offering as offering
 use Rattle.headend.specs.declared.record.Headend.{Headend}
@@ -27,6 +25,9 @@ use Rattle.channel.proofs.Keeping.{and_left, and_right}
 use Rattle.channel.proofs.Holding.{Places}
 use Rattle.channel.proofs.Invariant.{Steady, Inv}
 use Rattle.channel.proofs.Invariant.Case.{quiet}
+use Rattle.std.specs.Prelude.{None, Result, Ok, Err}
+use Rattle.rules.specs.declared.refusal.Refusal.{Refusal}
+use Rattle.rules.specs.declared.refusal.Reason.TheVariants.{Backoff, Sid, Size}
 
 -- a headend that was set up
 record NewHeadend (h : Headend) : Type 0 where
@@ -40,15 +41,15 @@ unfolding records.set_up_of held_of listed
 new_headend h channel count f = go (bad_backoff f.ranging || bad_backoff f.data_backoff) refl
   where
     go : (b : Bool) → (bad_backoff f.ranging || bad_backoff f.data_backoff) ≡ b → NewHeadend h
-    go true e = let z : Err (refusal 4 0) ≡ Ok h = rw e at f.set_up in absurd (let y : ◌≡◌ {A = ℕ} 0 1 = cc in omega arith)
+    go true e = let z : ◌≡◌ {A = Result Headend Refusal} (Err (refusal Backoff 0)) (Ok h) = rw e at f.set_up in absurd (let y : ◌≡◌ {A = ℕ} 0 1 = cc in omega arith)
     go false e =
-        let z : Ok (records.fresh f.next channel count f.ranging f.data_backoff f.short) ≡ Ok h = rw e at f.set_up in
+        let z : ◌≡◌ {A = Result Headend Refusal} (Ok (records.fresh f.next channel count f.ranging f.data_backoff f.short)) (Ok h) = rw e at f.set_up in
         let is : records.fresh f.next channel count f.ranging f.data_backoff f.short ≡ h = cc in
         rw (← is) (record { first_ack = refl; clock = f.clock; places = record { requests = refl }; none_held = refl })
 
 -- a station that was set up
 record NewStation (st : Station) : Type 0 where
-  pub unheard : st.end ≡ Nothing
+  pub unheard : st.end ≡ None
   pub steady : Steady st.sid st.r
 
 new_station : (st : Station) (channel count : ℕ) → FreshStation st channel count → NewStation st
@@ -56,10 +57,10 @@ unfolding offering.set_up_of
 new_station st channel count f = go (not (unicast f.sid)) refl (bad_r f.r) refl
   where
     go : (a : Bool) → not (unicast f.sid) ≡ a → (b : Bool) → bad_r f.r ≡ b → NewStation st
-    go true p b q = let z : set_up.Refused (refusal 6 0) ≡ set_up.Ready st = rw p at f.set_up in absurd (let y : ◌≡◌ {A = ℕ} 0 1 = cc in omega arith)
-    go false p true q = let z : set_up.Refused (refusal 17 0) ≡ set_up.Ready st = rw (p, q) at f.set_up in absurd (let y : ◌≡◌ {A = ℕ} 0 1 = cc in omega arith)
+    go true p b q = let z : ◌≡◌ {A = Result Station Refusal} (Err (refusal Sid 0)) (Ok st) = rw p at f.set_up in absurd (let y : ◌≡◌ {A = ℕ} 0 1 = cc in omega arith)
+    go false p true q = let z : ◌≡◌ {A = Result Station Refusal} (Err (refusal Size 0)) (Ok st) = rw (p, q) at f.set_up in absurd (let y : ◌≡◌ {A = ℕ} 0 1 = cc in omega arith)
     go false p false q =
-        let z : set_up.Ready (offering.fresh f.sid channel count f.r) ≡ set_up.Ready st = rw (p, q) at f.set_up in
+        let z : ◌≡◌ {A = Result Station Refusal} (Ok (offering.fresh f.sid channel count f.r)) (Ok st) = rw (p, q) at f.set_up in
         let is : offering.fresh f.sid channel count f.r ≡ st = cc in
         let u : unicast f.sid ≡ true = not-false _ p in
         let low = leb-true 1 f.sid (and_left (leb 1 f.sid) (leb f.sid 0x1FFF) u) in

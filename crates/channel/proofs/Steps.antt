@@ -11,7 +11,7 @@ use lib.Dec.{leb, ltb, eqb}
 use lib.Pow.{pow_pos}
 use lib.ListN.{length, get_or, set}
 use lib.Seq.{set-get_or}
-use borrow.Author.Tests.{eqb-true, ne_eqb, leb-true, le-leb, ltb-true, lt-ltb}
+use borrow.Author.Tests.{ne_eqb, leb-true, le-leb, ltb-true, lt-ltb}
 use Rattle.slots.specs.Time.{earlier, moved_on}
 use Rattle.slots.proofs.Rolling.{order}
 use Rattle.message.specs.Lists.{keep}
@@ -44,6 +44,8 @@ use Rattle.channel.proofs.CaseHear.{case_hear}
 use Rattle.channel.proofs.Logging.{burst_covered, sent_covered, sent_sid}
 use Rattle.channel.proofs.Tables.{each_set, apart_set, owner_set}
 use Rattle.channel.proofs.Refusing.{heard, Either, hear_either, accepted_fresh, offer_either}
+use Rattle.rules.specs.declared.refusal.Reason.{Reason}
+use Rattle.std.specs.Prelude.{Result, Ok, Err}
 
 -- the headend's next start, within the span
 pub next_below : (B : ℕ) (s : State) → Inv B s → spent s.issues < 2147483648 → at B s.headend.next.0 < 2147483648
@@ -167,14 +169,14 @@ module _ (B : ℕ) (s : State) (inv : Inv B s) where
 
   pub inv_deliver : spent s.issues < 2147483648 → (k : ℕ) → Inv B (step s (Deliver k))
   unfolding step request_of
-  inv_deliver small k = go (eqb (request_fault s.headend it) 0) refl
+  inv_deliver small k = go (request_fault s.headend it) refl
     where
       it : Request
       it = get_or s.flying k nothing
 
-      go : (b : Bool) → eqb (request_fault s.headend it) 0 ≡ b → Inv B (step s (Deliver k))
-      go false e = rw e (lost k)
-      go true e = rw e (took small k (request_welcome s.headend it (eqb-true _ 0 e)))
+      go : (b : Result Unit Reason) → request_fault s.headend it ≡ b → Inv B (step s (Deliver k))
+      go (Err why) e = rw e (lost k)
+      go (Ok u) e = rw e (took small k (request_welcome s.headend it e))
 
   -- a MAP is issued
   module _ (ack c budget : ℕ) (small : spent (record { before = s.headend; ack = ack; c = c; budget = budget } ∷ s.issues) < 2147483648)
@@ -243,11 +245,11 @@ module _ (B : ℕ) (s : State) (inv : Inv B s) where
 
   pub inv_issue : (ack c budget room : ℕ) → spent (step s (Issue' ack c budget room)).issues < 2147483648 → Inv B (step s (Issue' ack c budget room))
   unfolding step issue_of
-  inv_issue ack c budget room = go (eqb (issue_fault s.headend (ack % 2 ^ 32) c budget room) 0) refl
+  inv_issue ack c budget room = go (issue_fault s.headend (ack % 2 ^ 32) c budget room) refl
     where
-      go : (b : Bool) → eqb (issue_fault s.headend (ack % 2 ^ 32) c budget room) 0 ≡ b → spent (step s (Issue' ack c budget room)).issues < 2147483648 → Inv B (step s (Issue' ack c budget room))
-      go false e small = rw e inv
-      go true e small = rw e (made (ack % 2 ^ 32) c budget (rw e at small) (mod-lt ack (pow_pos 32)) room (issue_called s.headend (ack % 2 ^ 32) c budget room (eqb-true _ 0 e)))
+      go : (b : Result Unit Reason) → issue_fault s.headend (ack % 2 ^ 32) c budget room ≡ b → spent (step s (Issue' ack c budget room)).issues < 2147483648 → Inv B (step s (Issue' ack c budget room))
+      go (Err why) e small = rw e inv
+      go (Ok u) e small = rw e (made (ack % 2 ^ 32) c budget (rw e at small) (mod-lt ack (pow_pos 32)) room (issue_called s.headend (ack % 2 ^ 32) c budget room e))
 
   -- station i hears MAP j
   module _ (small : spent s.issues < 2147483648) (i : ℕ) (inside : i < length s.stations) (j : Issue) (mem : Memᴰ j s.issues) where
@@ -257,7 +259,7 @@ module _ (B : ℕ) (s : State) (inv : Inv B s) where
     ends : (end_of B j ≤ at B s.headend.next.0) × (1 ≤ length_of j)
     ends = chain_below B (at B s.headend.next.0) s.issues inv.line.chain j mem
 
-    pub fresh_if : (present : ℕ) → hear_fault (station_at s i) (map_in j).fields present ≡ 0 → heard_to B (station_at s i) ≤ start_of B j
+    pub fresh_if : (present : ℕ) → hear_fault (station_at s i) (map_in j).fields present ≡ Ok tt → heard_to B (station_at s i) ≤ start_of B j
     fresh_if present e =
         let u = (inv.each i inside).upto in
         let z = ap (at B) (inv.line.contents j mem).start in

@@ -15,15 +15,12 @@ use Rattle.rules.specs.Rules.{granting}
 use Rattle.message.specs.Map.{Map, Interval, intervals}
 use Rattle.station.specs.declared.record.Phase.TheVariants.{Waiting}
 use Rattle.station.specs.declared.record.Station.{Station}
-use Rattle.hearing.specs.declared.answer.Answer.TheVariants as answer
 use Rattle.hearing.specs.declared.answer.Hearing.{Hearing}
 use Rattle.hearing.specs.Hearing.{phase_after, request_in, station_after}
 use Rattle.hearing.proofs.Heard.{Outcome}
 use Rattle.hearing.proofs.Heard.Outcome.{silent, spoke}
 use Rattle.headend.specs.declared.record.Request.{Request}
 use Rattle.headend.specs.Requests.{held_of}
-use Rattle.issuing.specs.declared.issuing.Issued.{Issued}
-use Rattle.issuing.specs.declared.issuing.Issued.TheVariants as issued
 use Rattle.channel.specs.History.{from, Issue, bytes_of, map_in, State, station_at, Event, Offer, Issue', Hear, Deliver, Lose, heard_at, issues_after, asked, issuing, step, after, spent}
 use Rattle.channel.specs.Claims.{Fresh, GrantedAlone, HeldWaits, WaitingHeld, Safe}
 use Rattle.channel.proofs.Timing.{at, at_moved, earlier_at}
@@ -40,6 +37,9 @@ use Rattle.channel.proofs.Logging.{grant_within, grant_same}
 use Rattle.channel.proofs.Refusing.{Either, hear_either}
 use Rattle.channel.proofs.Steps.{next_below, inv_offer, inv_issue, inv_hear, inv_deliver, inv_lose, fresh_if}
 use Rattle.channel.proofs.Start.{inv_fresh}
+use Rattle.std.specs.Prelude.{Result, Ok, Err}
+use Rattle.rules.specs.declared.refusal.Refusal.{Refusal}
+use Rattle.hearing.specs.declared.answer.Answer.{Answer}
 
 -- the phase that an accepted hearing leaves
 phase_is : (st : Station) (m : Map) (draw : ℕ) → phase_after st m draw ≡ (station_after st m draw).phase
@@ -47,10 +47,10 @@ unfolding station_after
 phase_is st m draw = refl
 
 -- MAPs are only added
-issues_grow : (a : Issued) (j : Issue) (js : List Issue) → spent js ≤ spent (issues_after a j js)
+issues_grow : (a : Result ℕ Refusal) (j : Issue) (js : List Issue) → spent js ≤ spent (issues_after a j js)
 unfolding spent
-issues_grow (issued.Size size) j js = omega arith
-issues_grow (issued.Refused why) j js = omega arith
+issues_grow (Ok size) j js = omega arith
+issues_grow (Err why) j js = omega arith
 
 grows : (s : State) (e : Event) → spent s.issues ≤ spent (step s e).issues
 unfolding step
@@ -201,7 +201,7 @@ module _ (B : ℕ) where
     waiting_held i h j m present draw bursts request ok exponent retries size time w late = go (hear_either (station_at s i) (bytes_of j) present draw)
       where
         go : Either (station_at s i) (bytes_of j) present draw → (q : Request) × Memᴰ q (held_of j.before) × (q.sid ≡ (station_at s i).sid) × (q.size ≡ size) × (q.first ≡ time)
-        go (inl (why, e)) = let z : answer.Refused why ≡ answer.Heard bursts request = sym (ap (λ (r : Hearing). r.answer) e) ∙ ok in absurd (let y : ◌≡◌ {A = ℕ} 0 1 = cc in omega arith)
+        go (inl (why, e)) = let z : ◌≡◌ {A = Result Answer Refusal} (Err why) (Ok (record { bursts = bursts; request = request })) = sym (ap (λ (r : Hearing). r.answer) e) ∙ ok in absurd (let y : ◌≡◌ {A = ℕ} 0 1 = cc in omega arith)
         go (inr (e, f)) = waited i h j m draw exponent retries size time (phase_is (station_at s i) (map_in j) draw ∙ ap (λ (r : Hearing). r.station.phase) (sym e) ∙ w) (rw (inv.line.contents j m).ack at late) (fresh_if B s inv small i h j m present f) (inv.each i h).which
 
 -- the stronger form of demand 3: presents are any

@@ -8,16 +8,14 @@ use Rattle.message.specs.Map.{Interval, intervals, time_at, end_of}
 use Rattle.rules.specs.Rules.{granting}
 use Rattle.station.specs.declared.record.Phase.TheVariants.{Waiting}
 use Rattle.station.specs.declared.record.Station.{Station}
-use Rattle.station.specs.declared.record.SetUp.TheVariants as set_up
 use Rattle.station.specs.Offering as offering
-use Rattle.hearing.specs.declared.answer.Answer.TheVariants as answer
-use Rattle.hearing.specs.declared.answer.Sent.{Sent}
 use Rattle.hearing.specs.Hearing.{hear_of}
 use Rattle.headend.specs.declared.record.Headend.{Headend}
 use Rattle.headend.specs.declared.record.Request.{Request}
 use Rattle.headend.specs.Requests.{held_of}
 use Rattle.headend.specs.Records as records
 use Rattle.channel.specs.History.{Issue, bytes_of, map_in, Sending, State, station_at}
+use Rattle.std.specs.Prelude.{Option, Ok}
 
 -- "Take one headend .. freshly set up"; its next start is a 32-bit count
 pub record FreshHeadend (h : Headend) (channel count : ℕ) : Type 0 where
@@ -32,7 +30,7 @@ pub record FreshHeadend (h : Headend) (channel count : ℕ) : Type 0 where
 pub record FreshStation (st : Station) (channel count : ℕ) : Type 0 where
   pub sid : ℕ
   pub r : ℕ
-  pub set_up : offering.set_up_of sid channel count r ≡ set_up.Ready st
+  pub set_up : offering.set_up_of sid channel count r ≡ Ok st
 
 -- "Take one headend and stations freshly set up with different SIDs, on one channel and description."
 pub record Fresh (s : State) : Type 0 where
@@ -69,8 +67,8 @@ HeldWaits s = (q : Request) → Memᴰ q (held_of s.headend) →
 abbrev pub WaitingHeld : State → Type 0
 WaitingHeld s =
     -- station i accepts MAP j
-    (i : ℕ) → i < length s.stations → (j : Issue) → Memᴰ j s.issues → (present draw bursts : ℕ) (request : Sent) →
-    (hear_of (station_at s i) (bytes_of j) present draw).answer ≡ answer.Heard bursts request →
+    (i : ℕ) → i < length s.stations → (j : Issue) → Memᴰ j s.issues → (present draw bursts : ℕ) (request : Option MiniSlot) →
+    (hear_of (station_at s i) (bytes_of j) present draw).answer ≡ Ok (record { bursts = bursts; request = request }) →
     -- and is then waiting, its request earlier than the Ack Time
     (exponent retries size : ℕ) (time : MiniSlot) → (hear_of (station_at s i) (bytes_of j) present draw).station.phase ≡ Waiting exponent retries time size →
     earlier 32 time.0 (map_in j).fields.ack.0 ≡ true →

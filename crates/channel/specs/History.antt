@@ -4,22 +4,19 @@ use Rattle.message.specs.Map.{Map, map_length, grants_to, time_at}
 use Rattle.message.specs.Reading.{map_of}
 use Rattle.station.specs.declared.record.Phase.{Phase}
 use Rattle.station.specs.declared.record.Phase.TheVariants.{Idle, Wanting, Deferring, Waiting}
-use Rattle.station.specs.declared.record.Remembered.TheVariants as remembered
 use Rattle.station.specs.declared.record.Station.{Station}
 use Rattle.station.specs.Offering.{offer_of}
-use Rattle.hearing.specs.declared.answer.Sent.{Sent}
-use Rattle.hearing.specs.declared.answer.Sent.TheVariants as sent
-use Rattle.hearing.specs.declared.answer.Answer.{Answer}
-use Rattle.hearing.specs.declared.answer.Answer.TheVariants as answer
 use Rattle.hearing.specs.declared.answer.Hearing.{Hearing}
 use Rattle.hearing.specs.Hearing.{hear_of}
 use Rattle.headend.specs.declared.record.Headend.{Headend}
 use Rattle.headend.specs.declared.record.Request.{Request}
 use Rattle.headend.specs.Records.{request_of}
-use Rattle.issuing.specs.declared.issuing.Issued.{Issued}
-use Rattle.issuing.specs.declared.issuing.Issued.TheVariants as issued
 use Rattle.issuing.specs.declared.issuing.Issuing.{Issuing}
 use Rattle.issuing.specs.Issue.{plan_message, issue_of}
+use Rattle.std.specs.Prelude.{Option, Some, None, Result, Ok, Err}
+use Rattle.slots.specs.declared.time.MiniSlot.{MiniSlot}
+use Rattle.rules.specs.declared.refusal.Refusal.{Refusal}
+use Rattle.hearing.specs.declared.answer.Answer.{Answer}
 
 module _ {A : Type 0} where
   -- a list without the one at place k
@@ -76,7 +73,7 @@ pub data Event : Type 0 where
   Lose : ℕ → Event
 
 abbrev pub nobody : Station
-nobody = record { sid = 0; channel = 0; count = 0; r = 0; end = remembered.Nothing; phase = Idle }
+nobody = record { sid = 0; channel = 0; count = 0; r = 0; end = None; phase = Idle }
 
 abbrev pub nothing : Request
 nothing = record { sid = 0; size = 0; first = record { 0 = 0 } }
@@ -92,9 +89,9 @@ size_in (Deferring exponent left retries size) = size
 size_in (Waiting exponent retries time size) = size
 
 -- the request that was sent in a hearing: the answer's mini-slot, with the SID and the packet's size of the station that sent it
-abbrev pub request_by : Station → Sent → List Request
-request_by st sent.Nothing = []
-request_by st (sent.At t) = record { sid = st.sid; size = size_in st.phase; first = t } ∷ []
+abbrev pub request_by : Station → Option MiniSlot → List Request
+request_by st None = []
+request_by st (Some t) = record { sid = st.sid; size = size_in st.phase; first = t } ∷ []
 
 -- "every mini-slot of a data burst", "all r mini-slots of a request"
 abbrev pub bursts_by : Station → Map → List Sending
@@ -104,13 +101,13 @@ abbrev pub sendings_by : Station → List Request → List Sending
 sendings_by st qs = map (λ q. record { sid = st.sid; first = q.first.0; size = st.r }) qs
 
 -- what a hearing sent, as requests and as sendings; a refused one sent nothing
-abbrev pub requests_in : Station → Answer → List Request
-requests_in st (answer.Heard bursts request) = request_by st request
-requests_in st (answer.Refused why) = []
+abbrev pub requests_in : Station → Result Answer Refusal → List Request
+requests_in st (Ok a) = request_by st a.request
+requests_in st (Err why) = []
 
-abbrev pub sendings_in : Station → Answer → Map → List Sending
-sendings_in st (answer.Heard bursts request) m = sendings_by st (request_by st request) ++ bursts_by st m
-sendings_in st (answer.Refused why) m = []
+abbrev pub sendings_in : Station → Result Answer Refusal → Map → List Sending
+sendings_in st (Ok a) m = sendings_by st (request_by st a.request) ++ bursts_by st m
+sendings_in st (Err why) m = []
 
 abbrev pub heard_by : State → ℕ → Hearing → Map → State
 heard_by s i h m = record {
@@ -127,9 +124,9 @@ heard_at s i [] present draw = s
 heard_at s i (j ∷ js) present draw = heard_by s i (hear_of (station_at s i) (bytes_of j) present draw) (map_in j)
 
 -- a MAP joins those issued, if it was
-abbrev pub issues_after : Issued → Issue → List Issue → List Issue
-issues_after (issued.Size size) j js = j ∷ js
-issues_after (issued.Refused why) j js = js
+abbrev pub issues_after : Result ℕ Refusal → Issue → List Issue → List Issue
+issues_after (Ok size) j js = j ∷ js
+issues_after (Err why) j js = js
 
 -- what the headend is asked for now; a mini-slot time is a 32-bit count
 abbrev pub asked : State → ℕ → ℕ → ℕ → Issue

@@ -1,7 +1,6 @@
 -- Document 01, "Numbers to check": the cases marked P, in one table. What is computed is computed by the definitions that the contracts cite.
 use Rattle.std.specs.Prelude.{Bool, true, false, cond, ◌&&◌, List, [], ◌∷◌, ℕ, eqb}
-use Rattle.slots.specs.declared.time.Begins.{Begins}
-use Rattle.slots.specs.declared.time.Begins.TheVariants as begins
+use Rattle.slots.specs.declared.time.Timestamp.{Timestamp}
 use Rattle.slots.specs.declared.span.Span.{Span}
 use Rattle.slots.specs.declared.span.Span.TheVariants as span
 use Rattle.slots.specs.Time.{earlier}
@@ -9,17 +8,18 @@ use Rattle.slots.specs.Begins.{begins_at}
 use Rattle.slots.specs.Span.{Described, span_of}
 use Rattle.rules.specs.declared.element.Element.{Element}
 use Rattle.rules.specs.declared.fields.Fields.{Fields}
-use Rattle.message.specs.declared.reading.Verdict.{Verdict}
-use Rattle.message.specs.declared.reading.Verdict.TheVariants as verdict
 use Rattle.message.specs.Element.{element_of}
 use Rattle.message.specs.Reading.{read_of}
 use Rattle.writer.specs.Writing.{word_of, message_of}
 use Rattle.station.specs.declared.record.Phase.{Phase}
 use Rattle.station.specs.declared.record.Phase.TheVariants.{Idle, Wanting, Deferring, Waiting}
-use Rattle.station.specs.declared.record.Remembered.TheVariants as remembered
 use Rattle.station.specs.declared.record.Station.{Station}
 use Rattle.hearing.specs.Opportunities.{contention_in}
 use Rattle.hearing.specs.Hearing.{hear_of}
+use Rattle.std.specs.Prelude.{Option, Some, None, Result, Ok, Err}
+use Rattle.message.specs.declared.reading.Reading.{Reading}
+use Rattle.rules.specs.declared.refusal.Refusal.{Refusal}
+use Rattle.rules.specs.Refusals.{number_of}
 
 -- a case: what the definitions give, and what the paper says
 pub record Case : Type 0 where
@@ -67,9 +67,9 @@ abbrev pub granting : ℕ → List ℕ
 granting length = message_of (fields 1000 980) (element 5 6 0 ∷ element 0 7 length ∷ [])
 
 -- what reading answers: 0, or the refusal's number and element
-abbrev pub answered : Verdict → List ℕ
-answered (verdict.Accepted reading) = 0 ∷ []
-answered (verdict.Refused why) = why.number ∷ why.element ∷ []
+abbrev pub answered : Result Reading Refusal → List ℕ
+answered (Ok reading) = 0 ∷ []
+answered (Err why) = number_of why.reason ∷ why.element ∷ []
 
 -- a station's phase: 0 Idle; 1 Wanting; 2 Deferring, exponent, left, retries; 3 Waiting, exponent, retries, request time
 abbrev pub phase : Phase → List ℕ
@@ -80,7 +80,7 @@ phase (Waiting exponent retries time size) = 3 ∷ exponent ∷ retries ∷ time
 
 -- station 5, and what it is after it heard a MAP; the draw is 7
 abbrev pub station : ℕ → Phase → Station
-station r p = record { sid = 5; channel = 1; count = 2; r = r; end = remembered.Nothing; phase = p }
+station r p = record { sid = 5; channel = 1; count = 2; r = r; end = None; phase = p }
 
 abbrev pub heard : Station → List ℕ → Station
 heard st bytes = (hear_of st bytes 900 7).station
@@ -102,9 +102,9 @@ spanned span.Nothing = []
 spanned span.Lost = []
 spanned (span.Over e l) = e.0 ∷ l.0 ∷ []
 
-abbrev pub begun : Begins → List ℕ
-begun (begins.At t) = t.0 ∷ []
-begun begins.Size = []
+abbrev pub begun : Option Timestamp → List ℕ
+begun (Some t) = t.0 ∷ []
+begun None = []
 
 abbrev pub described : ℕ → ℕ → Described
 described start length = record { start = start; length = length }
