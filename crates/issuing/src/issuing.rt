@@ -36,13 +36,7 @@ fn bad_plan(c: u32, budget: u32) -> bool
 }
 
 // What is wrong before the MAP is made.
-fn call_fault(
-    h: Headend,
-    ack: MiniSlot,
-    c: u32,
-    budget: u32,
-    room: usize,
-) -> Result<(), Reason>
+fn call_fault(h: Headend, ack: MiniSlot, c: u32, budget: u32, room: usize) -> Result<(), Reason>
     ensures { result ≡ call_fault h ack.0 c budget room }
 {
     record_fault(h)?;

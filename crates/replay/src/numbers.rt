@@ -43,7 +43,10 @@ impl Triple for Request {
 }
 
 // The triples of some numbers, N at most, with `spare` behind them; and how many they are.
-pub fn triples<T: Triple, const N: usize>(numbers: &[u32], spare: T) -> Result<([T; N], usize), Bad> {
+pub fn triples<T: Triple, const N: usize>(
+    numbers: &[u32],
+    spare: T,
+) -> Result<([T; N], usize), Bad> {
     let n = numbers.len() / 3;
     if numbers.len() % 3 != 0 || N < n {
         return Err(Bad);

@@ -1,6 +1,6 @@
 // The parts of answers.
 use headend::Headend;
-use rules::{Backoff, Refusal};
+use rules::{Backoff, Reason, Refusal};
 use slots::MiniSlot;
 use station::{Phase, Station};
 use std::fmt;
@@ -14,6 +14,19 @@ impl Display for Refused {
     fn fmt<W: fmt::Write>(&self, f: &mut fmt::Formatter<W>) -> fmt::Result {
         let Refusal { reason, element } = self.0;
         write!(f, "refused {} {element}", reason.number())
+    }
+}
+
+// 0, or the number of a refusal that names no element.
+#[derive(Drop)]
+pub struct Code(pub Result<(), Reason>);
+
+impl Display for Code {
+    fn fmt<W: fmt::Write>(&self, f: &mut fmt::Formatter<W>) -> fmt::Result {
+        match self.0 {
+            Ok(()) => f.write_str("0"),
+            Err(reason) => write!(f, "{}", reason.number()),
+        }
     }
 }
 

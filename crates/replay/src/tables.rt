@@ -1,11 +1,20 @@
 // The call on a part of the station places, which hear one MAP together.
 use crate::bad::Bad;
-use crate::print::Numbers;
+use crate::print::{Code, Numbers};
 use lent::hear_forty;
 use slots::MiniSlot;
 use station::Station;
 use std::fmt::Write;
 use stream::Text;
+
+// The draws given, into the front of the room.
+fn draws_in<'a>(given: &[u32], room: &'a mut [u16; 40]) -> Result<&'a [u16], Bad> {
+    let draws = room.get_mut(..given.len()).ok_or(Bad)?;
+    for (draw, n) in draws.iter_mut().zip(given) {
+        *draw = u16::try_from(*n)?;
+    }
+    Ok(draws)
+}
 
 pub fn hear(
     stations: &mut [Station; 40],
@@ -22,19 +31,13 @@ pub fn hear(
         return Err(Bad);
     }
     let mut draws = [0u16; 40];
-    let draws = draws.get_mut(..given.len()).ok_or(Bad)?;
-    for (draw, n) in draws.iter_mut().zip(given) {
-        *draw = u16::try_from(*n)?;
-    }
+    let draws = draws_in(given, &mut draws)?;
     let mut answers = [9999u32; 40];
     let answers = answers.get_mut(..*places as usize).ok_or(Bad)?;
     let present = MiniSlot(*present);
     let heard = hear_forty(*stations, first, count, bytes, present, draws, answers);
-    *stations = heard.stations;
-    let code = match heard.answer {
-        Ok(()) => 0,
-        Err(reason) => reason.number(),
-    };
-    write!(out, "table {code}{}", Numbers(answers))?;
+    let after = heard.stations;
+    *stations = after;
+    write!(out, "table {}{}", Code(heard.answer), Numbers(answers))?;
     Ok(())
 }
