@@ -5,7 +5,7 @@ ghost use Rattle.rules.specs.Sids.{unicast};
 ghost use Rattle.headend.specs.Records.{set_up_of, bad_size, record_fault};
 
 use crate::record::{Headend, Request};
-use rules::{Backoff, Reason, Refusal, within};
+use rules::{Backoff, Reason, Refusal, unicast, within};
 use slots::MiniSlot;
 
 impl Headend {
@@ -46,7 +46,7 @@ impl Request {
     pub(crate) fn bad_sid(self) -> bool
         ensures { result ≡ not (unicast self.sid) }
     {
-        !within(0x0001, 0x1FFF, self.sid)
+        !unicast(self.sid)
     }
 
     pub(crate) fn bad_size(self) -> bool

@@ -6,7 +6,7 @@ ghost use Rattle.message.specs.Lists.{is_empty};
 ghost use Rattle.message.specs.Map.{intervals, pendings_to};
 ghost use Rattle.message.specs.Reading.{map_of};
 ghost use Rattle.hearing.specs.Opportunities.{contention};
-ghost use Rattle.hearing.specs.Scan.{first_of, grants, found_in, waiting_with, apart, passed_by};
+ghost use Rattle.hearing.specs.Scan.{first_of, found_in, waiting_with, apart, passed_by};
 
 use crate::map::Map;
 use rules::{Element, granting, within};
@@ -53,12 +53,6 @@ fn noted(found: Found, e: Element, length: u32, start: MiniSlot, r: u32) -> Foun
     }
 }
 
-fn granted_to(e: Element, sid: u32) -> bool
-    ensures { result ≡ grants sid e.sid e.iuc }
-{
-    granting(e.iuc) & (e.sid == sid)
-}
-
 fn step_of(e: Element, r: u32) -> u32
     ensures { result ≡ apart r e.sid e.iuc }
 {
@@ -92,7 +86,7 @@ impl Map<'_> {
     fn pending(self, sid: u32) -> bool
         ensures { result ≡ not (is_empty (pendings_to sid (map_of self.entry.bytes.now).elements)) }
     {
-        (self.reading.null + 1..self.reading.n).any(|i| granted_to(self.element(i), sid))
+        (self.reading.null + 1..self.reading.n).any(|i| self.element(i).grants_sid(sid))
     }
 
     // "Waiting with a pending": only a station that waits asks for one.

@@ -26,7 +26,8 @@ use Rattle.message.specs.Map.{Interval, first_offset, intervals, grants_to}
 use Rattle.message.specs.Lists.{listed}
 use Rattle.message.proofs.Accepted.{accepted}
 use Rattle.message.specs.Grants.{kth_of, kth_grant, granted_at, grant_of}
-use Rattle.message.specs.Scan.{grants_sid, hits, passed_by}
+use Rattle.rules.specs.Rules.{grants_sid}
+use Rattle.message.specs.Scan.{hits, passed_by}
 
 pub past_end : (s : List ℕ) (n : ℕ) → length s ≤ 16 + 4 * n → (element_at s n).offset ≡ 0
 unfolding element_at
@@ -64,7 +65,7 @@ module _ (el : ℕ → Element) (n sid : ℕ) (whole : Option Found) (i left : �
       interval = record { sid = e.sid; iuc = e.iuc; first = e.offset; length = next.offset - e.offset }
 
       step : kth_of (cond (grants_sid e sid) (interval ∷ grants_to sid (listed el (i + 1) (n - (i + 1)))) (grants_to sid (listed el (i + 1) (n - (i + 1))))) left ≡ whole
-      unfolding kth_grant grants_to intervals interval grants_sid
+      unfolding kth_grant grants_to intervals interval
       step = rw (follows, ← listed_first el n (i + 1) (omega arith) past) (rw (listed_more el n i more, ← is, ne_eqb e.iuc 7 open') at found)
 
       pub scan_hit : (h : Bool) (r : ℕ) → h ≡ hits e sid left → h ≡ true → r ≡ next.offset - e.offset → Some (record { offset = e.offset; length = r }) ≡ whole

@@ -4,15 +4,12 @@ use Rattle.rules.specs.declared.element.Element.{Element}
 use Rattle.rules.specs.declared.refusal.Refusal.{Refusal}
 use Rattle.message.specs.declared.reading.Reading.{Reading}
 use Rattle.message.specs.declared.reading.Checked.{Checked}
-use Rattle.rules.specs.Rules.{granting}
+use Rattle.rules.specs.Rules.{grants_sid}
 
 -- what a reading says beyond the header's fields
 abbrev pub checked_by : Result Reading Refusal → Result Checked Refusal
 checked_by (Ok r) = Ok (record { n = r.n; whole = record { null = r.null; length = r.length } })
 checked_by (Err why) = Err why
-
-unfoldable pub grants_sid : Element → ℕ → Bool
-grants_sid e sid = granting e.iuc && eqb e.sid sid
 
 -- an element is the grant sought, with none left to pass
 unfoldable pub hits : Element → ℕ → ℕ → Bool

@@ -3,12 +3,12 @@ ghost use Rattle.std.specs.Prelude.{◌≡◌, ◌+◌, ◌-◌, ◌*◌, ◌≤
 ghost use Rattle.message.specs.Element.{element_at};
 ghost use Rattle.message.specs.Lists.{listed};
 ghost use Rattle.message.specs.Grants.{kth_grant, granted_at, grant_of};
-ghost use Rattle.message.specs.Scan.{grants_sid, hits, passed_by};
+ghost use Rattle.message.specs.Scan.{hits, passed_by};
 
 use crate::element::element_at;
 use crate::fields::fields_of;
 use crate::reading::check;
-use rules::{Element, Refusal, granting};
+use rules::{Element, Refusal};
 use slots::MiniSlot;
 
 // By first mini-slot and length.
@@ -25,23 +25,17 @@ pub struct Found {
     pub length: u32,
 }
 
-fn grants_sid(e: Element, sid: u32) -> bool
-    ensures { result ≡ grants_sid e sid }
-{
-    granting(e.iuc) & (e.sid == sid)
-}
-
 fn hits(e: Element, sid: u32, left: u32) -> bool
     ensures { result ≡ hits e sid left }
 {
-    grants_sid(e, sid) & (left == 0)
+    e.grants_sid(sid) & (left == 0)
 }
 
 // How many grants are left to pass once an element that isn't the one has been.
 fn passed(e: Element, sid: u32, left: u32) -> u32
     ensures { result ≡ passed_by e sid left }
 {
-    if grants_sid(e, sid) {
+    if e.grants_sid(sid) {
         return left.saturating_sub(1);
     }
     left

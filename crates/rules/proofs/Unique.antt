@@ -5,6 +5,8 @@ use Rattle.rules.proofs.fields.Backoff.bad.Reads as bad
 use Rattle.rules.proofs.fields.Fields.bad_backoffs.Reads as bad-backoffs
 use Rattle.rules.proofs.refusal.Reason.number.Reads as number
 use Rattle.rules.proofs.refusal.RefusalFromReason.from.Reads as from
+use Rattle.rules.proofs.element.Element.grants_sid.Reads as grants-sid
+use Rattle.rules.proofs.rules.unicast.Reads as unicast
 use Rattle.rules.proofs.rules.within.Reads as within
 use Rattle.rules.proofs.rules.granting.Reads as granting
 use Rattle.rules.proofs.rules.sid_allowed.Reads as sid-allowed
@@ -49,3 +51,9 @@ advance_unique κs a r r' s s' p q = p ∙ sym q
 
 pub ended_unique : One ended.Post
 ended_unique κs a r r' s s' p q = p ∙ sym q
+
+pub unicast_unique : One unicast.Post
+unicast_unique κs a r r' s s' p q = p ∙ sym q
+
+pub grants_sid_unique : One grants-sid.Post
+grants_sid_unique κs a r r' s s' p q = p ∙ sym q

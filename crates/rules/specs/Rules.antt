@@ -13,6 +13,10 @@ use Rattle.rules.specs.Refusals.{refusal, unless}
 abbrev pub granting : ℕ → Bool
 granting iuc = eqb iuc 5 || eqb iuc 6
 
+-- a grant to a SID; after the Null, a pending
+abbrev pub grants_sid : Element → ℕ → Bool
+grants_sid e sid = granting e.iuc && eqb e.sid sid
+
 -- 5: "not 1 to 8 (house rule)"
 abbrev pub unknown_use : Element → Bool
 unknown_use e = not (within 1 8 e.iuc)

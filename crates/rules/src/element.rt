@@ -1,4 +1,10 @@
 // An information element: a SID, a use (IUC) and an offset.
+ghost use Rattle.std.specs.Prelude.{◌≡◌};
+ghost use Rattle.rules.specs.Rules.{grants_sid};
+
+use crate::rules::granting;
+
+// A use is the number that stands in the message: of its 16, document 01 has names for 8.
 #[derive(Clone, Copy, PartialEq, Eq)]
 pub struct Element {
     pub sid: u32,
@@ -12,4 +18,11 @@ impl Element {
     pub const LONGEST_MAP: u32 = 4096;
 
     pub const LONGEST_GRANT: u64 = 255;
+
+    // A grant, or a pending, to a SID.
+    pub fn grants_sid(self, sid: u32) -> bool
+        ensures { result ≡ grants_sid self sid }
+    {
+        granting(self.iuc) & (self.sid == sid)
+    }
 }

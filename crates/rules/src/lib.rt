@@ -11,5 +11,5 @@ pub use fields::{Backoff, Fields};
 pub use refusal::{Reason, Refusal};
 pub use rules::{
     Progress, Whole, advance, ended, fault, granting, nothing_yet, sid_allowed, standing_fault,
-    within,
+    unicast, within,
 };

@@ -1,6 +1,6 @@
 // The rules of the elements, one test each, and the first that an element breaks.
 ghost use Rattle.std.specs.Prelude.{◌≡◌};
-ghost use Rattle.rules.specs.Sids.{within, sid_allowed};
+ghost use Rattle.rules.specs.Sids.{within, unicast, sid_allowed};
 ghost use Rattle.rules.specs.Rules.{granting, unknown_use, misordered, wrong_sid, misplaced, too_far, grant_too_long, standing_fault, fault_of, nothing_yet, advanced, ended_at};
 
 use crate::element::Element;
@@ -37,6 +37,13 @@ pub fn granting(iuc: u32) -> bool
     (iuc == 5) | (iuc == 6)
 }
 
+// "Unicast means 0x0001..0x1FFF"
+pub fn unicast(sid: u32) -> bool
+    ensures { result ≡ unicast sid }
+{
+    within(0x0001, 0x1FFF, sid)
+}
+
 // Document 01's table of the SIDs allowed by use.
 pub fn sid_allowed(iuc: u32, sid: u32) -> bool
     ensures { result ≡ sid_allowed iuc sid }
@@ -53,7 +60,7 @@ pub fn sid_allowed(iuc: u32, sid: u32) -> bool
     if iuc == 7 {
         return sid == 0;
     }
-    within(0x0001, 0x1FFF, sid)
+    unicast(sid)
 }
 
 fn unknown_use(e: Element) -> bool

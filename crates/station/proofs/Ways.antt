@@ -73,19 +73,19 @@ module _ (p : Phase) where
       go (Waiting exponent retries time size) n = refl
 
 module _ (st : Station) where
-  pub record_6 : not (unicast st.sid) ≡ true → Err Sid ≡ record_fault st
+  pub record_6 : unicast st.sid ≡ false → Err Sid ≡ record_fault st
   unfolding record_fault
   record_6 a = rw a refl
 
-  pub record_r : not (unicast st.sid) ≡ false → bad_r st.r ≡ true → Err Size ≡ record_fault st
+  pub record_r : unicast st.sid ≡ true → bad_r st.r ≡ true → Err Size ≡ record_fault st
   unfolding record_fault
   record_r a b = rw (a, b) refl
 
-  pub record_phase : not (unicast st.sid) ≡ false → bad_r st.r ≡ false → bad_phase st.phase ≡ true → Err Size ≡ record_fault st
+  pub record_phase : unicast st.sid ≡ true → bad_r st.r ≡ false → bad_phase st.phase ≡ true → Err Size ≡ record_fault st
   unfolding record_fault
   record_phase a b c = rw (a, b, c) refl
 
-  pub record_good : not (unicast st.sid) ≡ false → bad_r st.r ≡ false → bad_phase st.phase ≡ false → Ok tt ≡ record_fault st
+  pub record_good : unicast st.sid ≡ true → bad_r st.r ≡ false → bad_phase st.phase ≡ false → Ok tt ≡ record_fault st
   unfolding record_fault
   record_good a b c = rw (a, b, c) refl
 
@@ -116,15 +116,15 @@ module _ (st : Station) where
     offer_taken h = rw (sym is ∙ h) refl
 
 module _ (sid channel count r : ℕ) where
-  pub set_up_6 : (r' : Refusal) → not (unicast sid) ≡ true → r' ≡ refusal Sid 0 → Err r' ≡ set_up_of sid channel count r
+  pub set_up_6 : (r' : Refusal) → unicast sid ≡ false → r' ≡ refusal Sid 0 → Err r' ≡ set_up_of sid channel count r
   unfolding set_up_of
   set_up_6 r' a e = rw (a, e) refl
 
-  pub set_up_17 : (r' : Refusal) → not (unicast sid) ≡ false → bad_r r ≡ true → r' ≡ refusal Size 0 → Err r' ≡ set_up_of sid channel count r
+  pub set_up_17 : (r' : Refusal) → unicast sid ≡ true → bad_r r ≡ true → r' ≡ refusal Size 0 → Err r' ≡ set_up_of sid channel count r
   unfolding set_up_of
   set_up_17 r' a b e = rw (a, b, e) refl
 
-  pub set_up_ready : not (unicast sid) ≡ false → bad_r r ≡ false → Ok (fresh sid channel count r) ≡ set_up_of sid channel count r
+  pub set_up_ready : unicast sid ≡ true → bad_r r ≡ false → Ok (fresh sid channel count r) ≡ set_up_of sid channel count r
   unfolding set_up_of
   set_up_ready a b = rw (a, b) refl
 

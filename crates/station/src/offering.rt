@@ -2,14 +2,14 @@
 ghost use Rattle.std.specs.Prelude.{◌≡◌, not};
 ghost use Rattle.station.specs.Offering.{set_up_of, idle, offer_fault, offer_of};
 
-use crate::record::{Offering, Phase, Station, bad_r, bad_sid, bad_size, record_fault};
-use rules::{Reason, Refusal};
+use crate::record::{Offering, Phase, Station, bad_r, bad_size, record_fault};
+use rules::{Reason, Refusal, unicast};
 
 impl Station {
     pub fn new(sid: u32, channel: u8, count: u8, r: u32) -> Result<Station, Refusal>
         ensures { result ≡ set_up_of sid channel count r }
     {
-        if bad_sid(sid) {
+        if !unicast(sid) {
             return Err(Refusal::from(Reason::Sid));
         }
         if bad_r(r) {

@@ -3,7 +3,7 @@ ghost use Rattle.std.specs.Prelude.{◌≡◌, not};
 ghost use Rattle.rules.specs.Sids.{unicast};
 ghost use Rattle.station.specs.Records.{bad_size, bad_r, bad_phase, record_fault};
 
-use rules::{Reason, Refusal, within};
+use rules::{Reason, Refusal, unicast, within};
 use slots::MiniSlot;
 
 // What becomes of the packet that was offered. `size` is the packet's, in mini-slots.
@@ -56,14 +56,6 @@ impl Station {
     pub const MOST_LEFT: u32 = 32767;
 
     pub const LARGEST_TABLE: usize = 32;
-
-    pub const LAST_UNICAST: u32 = 0x1FFF;
-}
-
-pub(crate) fn bad_sid(sid: u32) -> bool
-    ensures { result ≡ not (unicast sid) }
-{
-    !within(1, Station::LAST_UNICAST, sid)
 }
 
 pub(crate) fn bad_size(size: u32) -> bool
@@ -113,7 +105,7 @@ fn bad_phase(phase: Phase) -> bool
 pub fn record_fault(st: Station) -> Result<(), Reason>
     ensures { result ≡ record_fault st }
 {
-    if bad_sid(st.sid) {
+    if !unicast(st.sid) {
         return Err(Reason::Sid);
     }
     if bad_r(st.r) {
