@@ -6,6 +6,9 @@ use crate::backoff::{drawn, next_exponent};
 use rules::Fields;
 use station::{Phase, Station};
 
+// `fields` and `draw` go through these steps as `ready_phase` is given them: a struct of the two would be
+// made for that one call.
+
 // A request was lost: back off further, unless that was the last retry.
 fn after_loss(fields: Fields, draw: u16, exponent: u32, retries: u32, size: u32) -> Phase
     ensures { result ≡ lost fields draw exponent retries size }

@@ -14,7 +14,8 @@ pub struct Request {
     pub first: MiniSlot,
 }
 
-// The requests held stand in the order taken. Places from `held` on are spare.
+// The requests held stand in the order taken. Places from `held` on are spare. The count stands beside
+// the array: the memory is fixed, and a record handed in may say more than 64 (17, `record_fault`).
 #[derive(Clone, Copy)]
 pub struct Headend {
     pub next: MiniSlot,

@@ -53,6 +53,8 @@ fn noted(found: Found, e: Element, length: u32, start: MiniSlot, r: u32) -> Foun
     }
 }
 
+// 0 where it gives none; and where r is 0, so that nothing is divided by it: an Option would leave that to
+// be asked again.
 fn step_of(e: Element, r: u32) -> u32
     ensures { result ≡ apart r e.sid e.iuc }
 {

@@ -4,7 +4,8 @@ ghost use Rattle.rules.specs.Rules.{grants_sid};
 
 use crate::rules::granting;
 
-// A use is the number that stands in the message: of its 16, document 01 has names for 8.
+// A use is the number that stands in the message, and no enum: a reader answers with any of the 16
+// (`element_at` of message), and a number that is no use is for the rules to refuse (5).
 #[derive(Clone, Copy, PartialEq, Eq)]
 pub struct Element {
     pub sid: u32,

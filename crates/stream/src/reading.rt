@@ -23,7 +23,8 @@ pub fn some<R: Read, E: Write>(
     }
 }
 
-// Reads until the lent bytes are full or the input ends, also from a pipe that trickles.
+// Reads until the lent bytes are full or the input ends, also from a pipe that trickles. `at` is no
+// index of a `for`: it moves on by what a read brings.
 #[tactic(auto, using(crate::proofs::Within::came_more))]
 pub fn whole<R: Read, E: Write>(
     from: &mut R,
