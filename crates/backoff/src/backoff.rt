@@ -9,11 +9,7 @@ use station::Station;
 pub(crate) fn next_exponent(fields: Fields, exponent: u32) -> u32
     ensures { result ≡ next_exponent fields exponent }
 {
-    let end = fields.data.end as u32;
-    if exponent < end {
-        return exponent + 1;
-    }
-    end
+    exponent.saturating_add(1).min(fields.data.end as u32)
 }
 
 // A draw has 16 bits: by 2^16 and more it is its own remainder, and the shift stays within 32 bits.

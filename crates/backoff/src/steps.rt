@@ -9,7 +9,8 @@ use station::{Phase, Station};
 // `fields` and `draw` go through these steps as `ready_phase` is given them: a struct of the two would be
 // made for that one call.
 
-// A request was lost: back off further, unless that was the last retry.
+// A request was lost: back off further, unless that was the last retry. The numbers come as the one arm that
+// calls it takes them out of a phase.
 fn after_loss(fields: Fields, draw: u16, exponent: u32, retries: u32, size: u32) -> Phase
     ensures { result ≡ lost fields draw exponent retries size }
 {

@@ -29,6 +29,8 @@ pub struct Headend {
     pub requests: [Request; 64],
 }
 
+// By value, as the station's steps are: the headend after it, which a refusal leaves as it came, and the
+// answer.
 #[derive(Clone, Copy)]
 pub struct Taking {
     pub headend: Headend,

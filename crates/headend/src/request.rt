@@ -49,6 +49,7 @@ fn joined(h: Headend, q: Request) -> Headend
 }
 
 impl Headend {
+    // Of a request's three numbers, as every caller has them.
     pub fn request(self, sid: u32, size: u32, first: MiniSlot) -> Taking
         ensures { result ≡ request_of self (record { sid = sid; size = size; first = first }) }
     {

@@ -27,6 +27,7 @@ use Rattle.hearing.specs.declared.opportunity.Found.{Found}
 use Rattle.hearing.specs.Opportunities.{spaced, contention_in, own_in, contention}
 use Rattle.hearing.specs.Scan.{first_of, grants, found_in, apart, passed_by}
 use Rattle.std.specs.Prelude.{Option, Some, None, Ok}
+use Rattle.std.specs.Option.{option_or}
 
 and_none : (b : Bool) → (b && false) ≡ false
 and_none true = refl
@@ -40,13 +41,10 @@ granting_not_1 iuc h = go (eqb iuc 1) refl
     go false e = e
     go true e = let z : ◌≡◌ {A = Bool} false true = (rw (eqb-true iuc 1 e) at h) in let n : ◌≡◌ {A = ℕ} 0 1 = cc in absurd (omega arith)
 
-pub first_nothing : (own : Option MiniSlot) (time : MiniSlot) → own ≡ None → Some time ≡ first_of own (time.0 ∷ [])
+pub first_or : (own : Option MiniSlot) (time : MiniSlot) (r : Option MiniSlot) → r ≡ option_or own (Some time) → r ≡ first_of own (time.0 ∷ [])
 unfolding first_of
-first_nothing own time e = rw e refl
-
-pub first_before : (own : Option MiniSlot) (time before : MiniSlot) → own ≡ Some before → Some before ≡ first_of own (time.0 ∷ [])
-unfolding first_of
-first_before own time before e = rw e refl
+first_or None time r e = e
+first_or (Some before) time r e = e
 
 first_none : (own : Option MiniSlot) → first_of own [] ≡ own
 unfolding first_of
@@ -308,4 +306,4 @@ module _ (r sid iuc : ℕ) where
     unfolding apart
     step_data k m = rw (h, ← is, k, le-ltb (sid - 0x3FF0) r m) refl
 
-pub ruleset scan_ways = (said, said_not, not-true, first_nothing, first_before, noted_burst, noted_nothing, noted_own, step_broadcast, step_request, step_other, step_outside, step_small, step_data)
+pub ruleset scan_ways = (said, said_not, not-true, noted_burst, noted_nothing, noted_own, step_broadcast, step_request, step_other, step_outside, step_small, step_data)

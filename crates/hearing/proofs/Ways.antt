@@ -185,6 +185,12 @@ same : {A : Type 0} {x : A} (other : A) (f : Result Unit Reason) → unless f 0 
 same other (Err reason) b = absurd (let z : ◌≡◌ {A = ℕ} 0 1 = cc in omega arith)
 same other (Ok u) b = b
 
+-- a check of a MAP that was read refuses it
+pub hear_refused : (s : List ℕ) (reading : Reading) (ok : read_of s ≡ Ok reading) (st : Station) (present draw : ℕ) (f : Result Unit Reason) → f ≡ hear_fault st reading.fields present →
+    (why : Reason) → f ≡ Err why → record { station = st; answer = Err (refusal why 0) } ≡ hearing st (map_of s) present draw
+unfolding hearing
+hear_refused s reading ok st present draw f is why h = rw (← (accepted s reading ok).fields, sym is ∙ h) refl
+
 -- a MAP that was read is heard, unless one of the checks refuses it
 module _ (st : Station) (s : List ℕ) (present : ℕ) where
   pub hearable_record : (f : Result Unit Reason) (why : Reason) → f ≡ record_fault st → f ≡ Err why → Err (refusal why 0) ≡ hearable_in st s present
@@ -217,7 +223,7 @@ module _ (st : Station) (s : List ℕ) (present : ℕ) where
         go (Ok u) (Ok reading) e k = map (hear_fault st reading.fields present) refl k
           where
             map : (f : Result Unit Reason) → hear_fault st reading.fields present ≡ f → unless f 0 (Ok reading) ≡ Err why → record { station = st; answer = Err why } ≡ hearing st (map_of s) present draw
-            map (Err reason) a b = let same : refusal reason 0 ≡ why = cc in rw (← (accepted s reading e).fields, a, same) refl
+            map (Err reason) a b = let same : refusal reason 0 ≡ why = cc in rw (← same) (hear_refused s reading e st present draw _ refl reason a)
             map (Ok u) a b = absurd (let z : ◌≡◌ {A = ℕ} 0 1 = cc in omega arith)
 
     pub heard_read : (reading : Reading) → v ≡ Ok reading → read_of s ≡ Ok reading

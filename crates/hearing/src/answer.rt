@@ -10,6 +10,8 @@ pub struct Answer {
     pub request: Option<MiniSlot>,
 }
 
+// By value, as document 01 has the steps ("Forms by place"): the station after it, which a refusal leaves as
+// it came, and the answer.
 #[derive(Clone, Copy, PartialEq, Eq)]
 pub struct Hearing {
     pub station: Station,

@@ -26,10 +26,7 @@ const BROADCAST: u32 = 0x3FFF;
 fn first_of(own: Option<MiniSlot>, time: MiniSlot) -> Option<MiniSlot>
     ensures { result ≡ first_of own (time.0 ∷ []) }
 {
-    match own {
-        None => Some(time),
-        Some(before) => Some(before),
-    }
+    own.or(Some(time))
 }
 
 // One interval to the station's SID more.

@@ -156,6 +156,10 @@ module _ (h : Headend) (c budget : ℕ) (gs ps : List Request) (t : ℕ) (grante
   unfolding issued_from plan_of
   issued_by_lem ack = rw (plan_length h.short c (granted_in h c budget) (pending_in h c budget), ← total', pending') refl
 
+-- what the lent bytes hold once the reader accepted the headend's own MAP
+pub check_accepted : (own old : List ℕ) (b : Bool) (is : b ≡ refuses (read_of own)) (new : List ℕ) → b ≡ false → new ≡ own ++ drop (length own) old → (false ≡ refuses (read_of own)) × (new ≡ accepted_into own old)
+check_accepted own old b is new e p = let it = sym is ∙ e in (sym it, rw it p)
+
 -- what `issue` answers, and what the lent bytes hold then
 module _ (h : Headend) (ack c budget : ℕ) (old : List ℕ) (k : Result Unit Reason) (is : k ≡ call_fault h ack c budget (length old)) where
   pub issue_refused : (why : Reason) (r : Issuing) → k ≡ Err why → r ≡ record { headend = h; answer = Err (refusal why 0) } → (r ≡ issue_of h ack c budget (length old)) × (old ≡ issue_into h ack c budget old)

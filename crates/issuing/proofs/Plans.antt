@@ -138,10 +138,10 @@ module _ (qs : List Request) (old : List Element) (room : length qs ≤ length o
 first : Element
 first = record { sid = 0x3FFF; iuc = 1; offset = 0 }
 
-pub plan_stored : (short c : ℕ) (gs ps : List Request) → length gs + length ps ≤ 64 → (end : ℕ) (t u v one two : List Element) → length t ≡ 65 → (end ≡ c + total gs) × (one ≡ grants short c gs ++ drop (length gs) t) → two ≡ pendings end ps ++ u →
+pub plan_whole : (short c : ℕ) (gs ps : List Request) → length gs + length ps ≤ 64 → (end : ℕ) (t u v one two : List Element) → length t ≡ 65 → (end ≡ c + total gs) × (one ≡ grants short c gs ++ drop (length gs) t) → two ≡ pendings end ps ++ u →
     take (length gs + length ps + 2) (take (length gs + 2) (set (record { sid = 0x3FFF; iuc = 1; offset = 0 } ∷ (one ++ [])) (length gs + 1) (null end)) ++ (two ++ v)) ≡ elements_of short c gs ps
 unfolding elements_of first
-plan_stored short c gs ps few end t u v one two room grants' pendings' =
+plan_whole short c gs ps few end t u v one two room grants' pendings' =
     let G : List Element = first ∷ grants short c gs in
     let N : List Element = null end ∷ [] in
     let P : List Element = pendings end ps in

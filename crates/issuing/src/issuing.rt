@@ -13,7 +13,8 @@ use rules::{Reason, Refusal};
 use slots::MiniSlot;
 use writer::lay_out;
 
-// The answer is how many bytes the MAP has, or why there is none.
+// By value, as the station's steps are: the headend after it, which a refusal leaves as it came, and how many
+// bytes the MAP has, or why there is none.
 #[derive(Clone, Copy)]
 pub struct Issuing {
     pub headend: Headend,
@@ -86,7 +87,7 @@ fn refused(h: Headend, reason: Reason) -> Issuing
     }
 }
 
-// 24: whether the reader refuses the headend's own MAP. The lent bytes hold it only where it does not.
+// 24: whether the reader refuses the headend's own MAP; yes or no, as there is one reason, which `issue` names. The lent bytes hold it only where it does not.
 fn selfcheck(own: &[u8], out: &mut [u8]) -> bool
     requires { length own.now ≤ length out.old }
     ensures { (result ≡ refuses (read_of own.now)) × (out.new ≡ accepted_into own.now out.old) }

@@ -1,9 +1,9 @@
--- The part of forty records that is lent.
+-- The part of forty records that is lent, and the cells of a row cut in two and joined again.
 use mathlib.Core.Path.{◌≡◌, refl, subst}
-use Prim.Native.Nat.{ℕ, ◌+◌, ◌-◌, ◌≤◌, ◌<◌}
+use Prim.Native.Nat.{ℕ, zero, suc, ◌+◌, ◌-◌, ◌≤◌, ◌<◌}
 use native.Mathlib.Omega.{arith}
 use mathlib.Core.Bool.{Bool, true, false}
-use mathlib.Core.List.{List, [], append-nil}
+use mathlib.Core.List.{List, [], ◌∷◌, ◌++◌, append-nil}
 use lib.Dec.{ltb}
 use lib.ListN.{length, take, drop, drop_of_length-le}
 use lib.Seq.{take_all}
@@ -14,6 +14,14 @@ use Rattle.station.specs.declared.record.Station.{Station}
 use Rattle.lent.specs.Table.{table_fault, answer_of, places_of}
 use Rattle.lent.specs.Forty.{window_of, lent_of, forty_after}
 use Rattle.lent.specs.declared.forty.Window.{Window}
+use seplogic.Ra.Ura.{Ura}
+use base.Logic.{ent, sep}
+use types.Logic.{Logic, sem}
+use types.Kit.{‵, ◌⊛◌, ◌$◌, ◌∵◌, !, qed, move, use1, use2, split, fsplit, fjoin, frame, done}
+use types.Kit.{drop as drop'}
+use types.SemTy.{SemTy, cells}
+use denote.Steps.{nothing}
+use denote.Index.{place}
 
 pub window_past : (i c : ℕ) → 40 < i → ◌≡◌ {A = Window} (record { from = 0; to = 40 }) (window_of i c)
 unfolding window_of
@@ -42,6 +50,22 @@ window_inside i c = go (ltb 40 i) (ltb (40 - i) c) refl refl
 
 pub inside : (w : Window) (i c : ℕ) → w ≡ window_of i c → (w.from ≤ w.to) × (w.to ≤ 40)
 inside w i c e = rw e (window_inside i c)
+
+module _ {M : Type 1} {𝓤 : Ura M} (𝓛 : Logic 𝓤) (T : SemTy) where
+  pub cells_cut : (a : ℕ) (xs : List T.rep) (b o : ℕ) → a ≤ length xs
+      → ent 𝓤 (sem 𝓛 (cells T xs b o)) (sep 𝓤 (sem 𝓛 (cells T (take a xs) b o)) (sem 𝓛 (cells T (drop a xs) b (place T.size o a))))
+  cells_cut zero xs b o l = qed 𝓛 (‵ (cells T xs b o) ∷ []) ∵ nothing ! $ frame ! $ done !
+  cells_cut (suc a) [] b o l = absurd (omega (arith, l))
+  cells_cut (suc a) (x ∷ xs) b o l =
+      qed 𝓛 (‵ (cells T (x ∷ xs) b o) ∷ []) ∵ fsplit ! $ move ! (1 ∷ []) $
+      use1 𝓛 (‵ (cells T (take a xs) b (o + T.size)) ⊛ ‵ (cells T (drop a xs) b (place T.size (o + T.size) a))) (cells_cut a xs b (o + T.size) (omega (arith, l))) $ split ! $ move ! (2 ∷ 0 ∷ []) $ fjoin ! $ frame ! $ done !
+
+  pub cells_join : (xs ys : List T.rep) (b o : ℕ)
+      → ent 𝓤 (sep 𝓤 (sem 𝓛 (cells T xs b o)) (sem 𝓛 (cells T ys b (place T.size o (length xs))))) (sem 𝓛 (cells T (xs ++ ys) b o))
+  cells_join [] ys b o = qed 𝓛 (‵ (cells T [] b o) ∷ ‵ (cells T ys b o) ∷ []) ∵ drop' ! $ done !
+  cells_join (x ∷ xs) ys b o =
+      qed 𝓛 (‵ (cells T (x ∷ xs) b o) ∷ ‵ (cells T ys b (place T.size (o + T.size) (length xs))) ∷ []) ∵ fsplit ! $ move ! (1 ∷ 2 ∷ []) $
+      use2 𝓛 (‵ (cells T (xs ++ ys) b (o + T.size))) (cells_join xs ys b (o + T.size)) $ move ! (1 ∷ 0 ∷ []) $ done !
 
 too_many : (t d p : ℕ) → 32 < t → table_fault t d p ≡ Err Size
 unfolding table_fault

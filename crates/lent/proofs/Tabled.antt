@@ -11,7 +11,7 @@ use borrow.Author.Tests.{lt-ltb, le-ltb, ltb-false}
 use Rattle.station.specs.Offering.{fresh}
 use Rattle.station.specs.declared.record.Station.{Station}
 use Rattle.hearing.specs.declared.answer.Hearing.{Hearing}
-use Rattle.lent.specs.Table.{table_fault, number_in, placed, placed_of, records_after, places_after, HearsTable}
+use Rattle.lent.specs.Table.{table_fault, number_in, placed, placed_of, records_after, places_after, table_of, places_of, HearsTable}
 use Rattle.std.specs.Prelude.{Result, Ok, Err}
 use Rattle.rules.specs.declared.refusal.Reason.{Reason}
 use Rattle.rules.specs.declared.refusal.Reason.TheVariants.{Size}
@@ -106,13 +106,15 @@ module _ (bytes : List ℕ) (present : ℕ) (draws : List ℕ) (xs : List Statio
   table_refused why h = let e = sym is ∙ h in (sym e, (rw e refl, rw e refl))
 
   -- .. and the loop's end
-  pub table_heard : f ≡ Ok tt → (now : List Station) (at : List ℕ) → now ≡ go_s bytes present draws (length xs) 0 xs → at ≡ go_p bytes present draws (length xs) 0 xs zs → HearsTable bytes present draws xs zs now at (Ok tt)
-  table_heard h now at p q =
-      let e = sym is ∙ h in
-      let fits = fault_fits (length xs) (length draws) (length zs) e in (
-        sym e,
-        (
-          p ∙ go_s_is bytes present draws (length xs) 0 xs (omega arith) fits.0 ∙ rw e refl,
-          q ∙ go_p_is bytes present draws (length xs) 0 xs zs (omega arith) fits.0 fits.1 ∙ rw e refl,
-        ),
-      )
+  module _ (good : f ≡ Ok tt) (i : ℕ) (ended : length xs ≤ i) (now : List Station) where
+    fits : (length xs ≤ length draws) × (length xs ≤ length zs)
+    fits = fault_fits (length xs) (length draws) (length zs) (sym is ∙ good)
+
+    none_left : length xs - i ≡ 0
+    none_left = omega arith
+
+    pub ends_s : go_s bytes present draws (length xs - i) i now ≡ go_s bytes present draws (length xs) 0 xs → now ≡ table_of bytes present draws xs zs
+    ends_s e = (rw none_left at e) ∙ go_s_is bytes present draws (length xs) 0 xs (omega arith) fits.0 ∙ rw (sym is ∙ good) refl
+
+    pub ends_p : (at : List ℕ) → go_p bytes present draws (length xs - i) i now at ≡ go_p bytes present draws (length xs) 0 xs zs → at ≡ places_of bytes present draws xs zs
+    ends_p at e = (rw none_left at e) ∙ go_p_is bytes present draws (length xs) 0 xs zs (omega arith) fits.0 fits.1 ∙ rw (sym is ∙ good) refl

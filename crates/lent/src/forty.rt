@@ -1,4 +1,5 @@
-// Forty records by value, of which a part is lent as a table.
+// Forty records by value, of which a part is lent as a table: the number is document 01's, and the memory is
+// fixed. The places take numbers, as those of `hear_table`.
 ghost use Rattle.std.specs.Prelude.{◌≡◌};
 ghost use Rattle.lent.specs.Forty.{window_of, HearsForty};
 

@@ -1,5 +1,5 @@
 // Standard input, whole, and its report on standard output. One byte more than the longest input is
-// enough to know that an input is too long.
+// enough to know that an input is too long; so the room is fixed, and no heap asked.
 #![tactic(auto)]
 
 use stream::Failed;

@@ -10,7 +10,7 @@ pub struct Line<'a> {
     pub bytes: Option<&'a [u8]>,
 }
 
-// One to ten digits.
+// One to ten digits: std's `parse` would take a sign, too.
 fn number(token: &[u8]) -> Result<u32, Bad> {
     if token.is_empty() || 10 < token.len() {
         return Err(Bad);
@@ -26,6 +26,7 @@ fn number(token: &[u8]) -> Result<u32, Bad> {
     Ok(number)
 }
 
+// In lower case: std's `to_digit` would take capitals, too.
 fn hex_digit(letter: u8) -> Result<u8, Bad> {
     match letter {
         b'0'..=b'9' => Ok(letter - b'0'),

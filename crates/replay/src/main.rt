@@ -24,7 +24,8 @@ const MOST_INPUT: usize = 1048576;
 
 // The longest answer is that of a refused `issue`: 7 letters, 2 numbers of at most 11 bytes with
 // their space, ` x` and 2,000 digits, the headend's 4 numbers of 11 bytes, its 6 of 4 and 64 times 3
-// of 11, and the line's end, in all 4,212.
+// of 11, and the line's end, in all 4,212. This room and those of a line are fixed, as what they hold is
+// bounded: on the heap each would only be one failure more.
 const ROOM: usize = 8192;
 
 fn answered(places: &mut Places, line: &[u8], out: &mut Text) -> Result<(), Bad> {

@@ -21,7 +21,7 @@ pub fn backoff(start: u32, end: u32) -> Result<Backoff, Bad> {
     })
 }
 
-// What three numbers of a line say.
+// What three numbers of a line say: a trait of this program's own, as `From` would be for types of others.
 pub trait Triple: Copy {
     fn of(numbers: [u32; 3]) -> Self;
 }

@@ -8,6 +8,7 @@ use headend::Headend;
 use station::Station;
 use stream::Text;
 
+// As many as docs/REPLAY.md numbers.
 #[derive(Drop)]
 pub struct Places {
     stations: [Station; 40],
@@ -29,7 +30,7 @@ impl Places {
         }
     }
 
-    // Those whose line a hex token ends.
+    // Those whose line a hex token ends. An arm a call: a table of functions would have one type for all.
     fn call_with_bytes(
         &mut self,
         word: Word,

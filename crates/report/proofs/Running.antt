@@ -58,6 +58,19 @@ maps_short (suc k) s = go (eqb (length s) 0) (next_of s) refl (λ t. maps_short 
 span_running : (s : List ℕ) → added_all 32 Nothing (maps_in (bodies_of s)) ≡ span_of 32 (maps_in (bodies_of s))
 span_running s = running_is_span 32 (omega arith) (maps_in (bodies_of s)) (fit_4096 (maps_in (bodies_of s)) (maps_short (length s) s))
 
+-- what bodies add to the report, the first with number i, after MAPs with span p
+abbrev pub rest_of : ℕ → Span → List Body → List ℕ
+rest_of i p bs = lines_from i bs ++ span_line (added_all 32 p (maps_in bs))
+
+rest_bad : (i : ℕ) (p : Span) (why : Reason) → rest_of i p (Err why ∷ []) ≡ refused_line i why ++ span_line p
+unfolding lines_from maps_in added_all
+rest_bad i p why = refl
+
+-- .. and all of them make it
+text_running : (s : List ℕ) → text_of s ≡ rest_of 0 Nothing (bodies_of s)
+unfolding text_of
+text_running s = rw (← span_running s) refl
+
 -- left is still to be read, number how many MAPs came before it, span their span
 pub record Going (input left : List ℕ) (number : ℕ) (span : Span) (before now : Lines) : Type 0 where
   pub few : number + length left ≤ 65536

@@ -35,6 +35,7 @@ fn put_bodies(input: &[u8], lines: &mut Lines) -> Span
     let mut left = input;
     let mut number: u32 = 0;
     let mut span = Span::new();
+    // How far to go on stands in each body: a `for` would want an iterator of its own.
     while !left.is_empty() {
         match next_body(left) {
             Ok(row) => {

@@ -47,10 +47,7 @@ impl Station {
 fn busy(phase: Phase) -> bool
     ensures { result ≡ not (idle phase) }
 {
-    match phase {
-        Phase::Idle => false,
-        _ => true,
-    }
+    !matches!(phase, Phase::Idle)
 }
 
 // Why an offer is refused.

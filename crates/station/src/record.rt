@@ -38,6 +38,8 @@ pub struct Station {
     pub phase: Phase,
 }
 
+// By value, as document 01 has the steps ("Forms by place"): the station after it, which a refusal leaves as
+// it came, and the answer.
 #[derive(Clone, Copy, PartialEq, Eq)]
 pub struct Offering {
     pub station: Station,
@@ -58,6 +60,8 @@ impl Station {
     pub const LARGEST_TABLE: usize = 32;
 }
 
+// The headend has a test of its own for a request: neither crate leans on the other, and each edit of the
+// one limit is told from the other's.
 pub(crate) fn bad_size(size: u32) -> bool
     ensures { result ≡ bad_size size }
 {

@@ -5,9 +5,10 @@ ghost use Rattle.stream.specs.Text.{Puts, decimal_of, hex_of};
 
 use std::fmt;
 
-// More than any lent bytes.
+// More than any lent bytes: that much `put` promises to be used where it had no room, and no flag.
 const TOO_MANY: usize = usize::MAX;
 
+// Lent bytes, of which so many are used: what is put behind them may not fit, so no shorter slice says it.
 #[derive(Drop)]
 pub struct Text<'a> {
     pub bytes: &'a mut [u8],

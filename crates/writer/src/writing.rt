@@ -5,8 +5,9 @@ ghost use Rattle.writer.specs.Writing.{word_of, header_of, elements_of, room_for
 
 use rules::{Element, Fields, Reason, Refusal, Whole, advance, ended, fault, nothing_yet};
 
-// The reader's own walk, over the elements to be written: it yields the first fault by break, as
-// document 01 has it ("Forms by place").
+// The reader's own walk, over the elements to be written: it yields the first fault by break, as document 01
+// has it ("Forms by place"). Every rule and each step is shared (`fault`, `advance`, `ended`); the loop is
+// not, as the reader's gets its elements out of bytes, and goes on in another at the Null.
 fn walk(elements: &[Element]) -> Result<Whole, Refusal>
     requires { length elements.now ≤ 240 }
     ensures { result ≡ walked 0 nothing_yet elements.now }

@@ -1,8 +1,5 @@
-use Rattle.hearing.proofs.Scanning.{scan_ways}
+use Rattle.hearing.proofs.Scanning.{first_or}
 use Rattle.hearing.proofs.opportunity.first_of.Goals as goal
 
-pub returns-in-None : goal.returns-in-None
-returns-in-None c = search scan_ways
-
-pub returns-in-Some : goal.returns-in-Some
-returns-in-Some c = search scan_ways
+pub returns : goal.returns
+returns c = first_or _ _ _ c.or.ensures

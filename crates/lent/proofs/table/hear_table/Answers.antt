@@ -2,7 +2,7 @@ use Rattle.std.proofs.Common.{◌≡◌, ◌-◌, ◌∙◌, arith, sym, refl, l
 use Rattle.std.proofs.Math.Nat.{sub-zero}
 use lib.ListN.{length-set}
 use Rattle.std.proofs.lemmas.Result.{err_from_is_err_and}
-use Rattle.lent.proofs.Tabled.{fault_fits, table_refused, turn_s, turn_p, table_heard}
+use Rattle.lent.proofs.Tabled.{fault_fits, table_refused, turn_s, turn_p, ends_s, ends_p}
 use Rattle.lent.proofs.table.hear_table.Goals as goal
 
 pub returns-in_err-table_fault : goal.returns-in_err-table_fault
@@ -32,5 +32,10 @@ loop-i-preserved c =
 pub returns : goal.returns
 returns c =
     let l = c.loop-i in
-    let none : length c.args.table.now - l.i ≡ 0 = omega (arith, c.loop-i-test.false) in
-    table_heard _ _ _ _ _ _ c.table_fault.ensures c.in_ok-table_fault.was _ _ (rw none at l.invariant.records) (rw none at l.invariant.numbers)
+    let e = sym c.table_fault.ensures ∙ c.in_ok-table_fault.was in (
+      sym e,
+      (
+        ends_s _ _ _ _ _ _ c.table_fault.ensures c.in_ok-table_fault.was l.i c.loop-i-test.false l.table l.invariant.records,
+        ends_p _ _ _ _ _ _ c.table_fault.ensures c.in_ok-table_fault.was l.i c.loop-i-test.false l.table l.places l.invariant.numbers,
+      ),
+    )
