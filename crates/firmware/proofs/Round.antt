@@ -3,14 +3,14 @@ use mathlib.Core.Path.{◌≡◌, refl}
 use Rattle.station.specs.declared.record.Station.{Station}
 use Rattle.station.specs.declared.record.Phase.{Phase}
 use Rattle.station.specs.declared.record.Phase.TheVariants.{Idle, Wanting, Deferring, Waiting}
-use Rattle.station.specs.declared.record.Remembered.{Remembered}
-use Rattle.station.specs.declared.record.Remembered.TheVariants.{Nothing, End}
+use Rattle.slots.specs.declared.time.MiniSlot.{MiniSlot}
+use Rattle.std.specs.Prelude.{Option, Some, None}
 use Rattle.firmware.specs.Layout.{remembered, phase_of, parts_of, known, end_in, station_of, numbers_of}
 
-end_trip : (e : Remembered) → remembered (known e) (end_in e) ≡ e
+end_trip : (e : Option MiniSlot) → remembered (known e) (end_in e) ≡ e
 unfolding remembered
-end_trip Nothing = refl
-end_trip (End time) = refl
+end_trip None = refl
+end_trip (Some time) = refl
 
 phase_trip : (p : Phase) → phase_of (parts_of p) ≡ p
 unfolding phase_of

@@ -1,19 +1,18 @@
 -- A station's record as twelve numbers, for C: SID, channel, UCD count, r, whether an end is known (0 or 1), that end, the state (0 Idle, 1 Wanting, 2 Deferring, 3 Waiting), size, exponent, opportunities left, retries, request time.
-use Rattle.std.specs.Prelude.{ℕ, Bool, cond, ◌||◌, List, [], ◌∷◌, ltb, eqb, get_or}
+use Rattle.std.specs.Prelude.{ℕ, Bool, cond, ◌||◌, List, [], ◌∷◌, ltb, eqb, get_or, Option, Some, None}
+use Rattle.slots.specs.declared.time.MiniSlot.{MiniSlot}
 use Rattle.station.specs.declared.record.Phase.{Phase}
 use Rattle.station.specs.declared.record.Phase.TheVariants.{Idle, Wanting, Deferring, Waiting}
-use Rattle.station.specs.declared.record.Remembered.{Remembered}
-use Rattle.station.specs.declared.record.Remembered.TheVariants.{Nothing, End}
 use Rattle.station.specs.declared.record.Station.{Station}
 use Rattle.firmware.specs.declared.layout.Parts.{Parts}
 
-abbrev pub known : Remembered → ℕ
-known Nothing = 0
-known (End time) = 1
+abbrev pub known : Option MiniSlot → ℕ
+known None = 0
+known (Some time) = 1
 
-abbrev pub end_in : Remembered → ℕ
-end_in Nothing = 0
-end_in (End time) = time.0
+abbrev pub end_in : Option MiniSlot → ℕ
+end_in None = 0
+end_in (Some time) = time.0
 
 -- fields that a state doesn't have are 0 going out ..
 abbrev pub undeferred : ℕ → ℕ → Parts
@@ -32,8 +31,8 @@ abbrev pub numbers_of : Station → List ℕ
 numbers_of st = laid st (parts_of st.phase)
 
 -- .. and ignored coming in
-unfoldable pub remembered : ℕ → ℕ → Remembered
-remembered k end = cond (eqb k 0) Nothing (End (record { 0 = end }))
+unfoldable pub remembered : ℕ → ℕ → Option MiniSlot
+remembered k end = cond (eqb k 0) None (Some (record { 0 = end }))
 
 unfoldable pub phase_of : Parts → Phase
 phase_of p =

@@ -1,9 +1,11 @@
 // A station's record as twelve numbers.
-ghost use Rattle.std.specs.Prelude.{◌≡◌, false};
-ghost use Rattle.firmware.specs.Layout.{known, end_in, remembered, undeferred, parts_of, phase_of, parts_in, out_of_range, station_of, numbers_of};
+ghost use Rattle.std.specs.Prelude.{◌≡◌};
+ghost use Rattle.firmware.specs.Layout.{known, end_in, remembered, undeferred, parts_of, phase_of, parts_in, out_of_range, numbers_of};
+ghost use Rattle.firmware.specs.Steps.{station_in};
 
+use rules::Reason;
 use slots::MiniSlot;
-use station::{Phase, Remembered, Station};
+use station::{Phase, Station};
 
 // The state's number, and every field that some state has.
 #[derive(Clone, Copy)]
@@ -16,6 +18,7 @@ pub(crate) struct Parts {
     pub time: u32,
 }
 
+// C has no enum with fields: the states by number.
 const IDLE: u32 = 0;
 
 const WANTING: u32 = 1;
@@ -24,31 +27,24 @@ const DEFERRING: u32 = 2;
 
 const WAITING: u32 = 3;
 
-fn known(end: Remembered) -> u32
-    ensures { result ≡ known end }
+// C has no Option: whether there is a mini-slot ..
+pub(crate) fn flag(time: Option<MiniSlot>) -> u32
+    ensures { result ≡ known time }
 {
-    match end {
-        Remembered::Nothing => 0,
-        Remembered::End(time) => 1,
-    }
+    u32::from(time.is_some())
 }
 
-fn end_in(end: Remembered) -> u32
-    ensures { result ≡ end_in end }
+// .. and which, or 0.
+pub(crate) fn time_in(time: Option<MiniSlot>) -> u32
+    ensures { result ≡ end_in time }
 {
-    match end {
-        Remembered::Nothing => 0,
-        Remembered::End(time) => time.0,
-    }
+    time.map_or(0, |time| time.0)
 }
 
-fn remembered(known: u32, end: u32) -> Remembered
+fn remembered(known: u32, end: u32) -> Option<MiniSlot>
     ensures { result ≡ remembered known end }
 {
-    if known == 0 {
-        return Remembered::Nothing;
-    }
-    Remembered::End(MiniSlot(end))
+    (known != 0).then_some(MiniSlot(end))
 }
 
 // The parts of a state that has a size at most.
@@ -65,63 +61,67 @@ fn undeferred(state: u32, size: u32) -> Parts
     }
 }
 
-fn parts_of(phase: Phase) -> Parts
-    ensures { result ≡ parts_of phase }
-{
-    match phase {
-        Phase::Idle => undeferred(IDLE, 0),
-        Phase::Wanting { size } => undeferred(WANTING, size),
-        Phase::Deferring {
-            exponent,
-            left,
-            retries,
-            size,
-        } => Parts {
-            state: DEFERRING,
-            size,
-            exponent,
-            left,
-            retries,
-            time: 0,
-        },
-        Phase::Waiting {
-            exponent,
-            retries,
-            time,
-            size,
-        } => Parts {
-            state: WAITING,
-            size,
-            exponent,
-            left: 0,
-            retries,
-            time: time.0,
-        },
+impl From<Phase> for Parts {
+    ghost from_gives = { λ phase p. p ≡ parts_of phase };
+
+    fn from(phase: Phase) -> Parts {
+        match phase {
+            Phase::Idle => undeferred(IDLE, 0),
+            Phase::Wanting { size } => undeferred(WANTING, size),
+            Phase::Deferring {
+                exponent,
+                left,
+                retries,
+                size,
+            } => Parts {
+                exponent,
+                left,
+                retries,
+                ..undeferred(DEFERRING, size)
+            },
+            Phase::Waiting {
+                exponent,
+                retries,
+                time,
+                size,
+            } => Parts {
+                exponent,
+                retries,
+                time: time.0,
+                ..undeferred(WAITING, size)
+            },
+        }
     }
 }
 
-fn phase_of(p: Parts) -> Phase
-    ensures { result ≡ phase_of p }
-{
-    if p.state == IDLE {
-        return Phase::Idle;
-    }
-    if p.state == WANTING {
-        return Phase::Wanting { size: p.size };
-    }
-    if p.state == DEFERRING {
-        return Phase::Deferring {
-            exponent: p.exponent,
-            left: p.left,
-            retries: p.retries,
-            size: p.size,
-        };
-    }
-    Phase::Waiting {
-        exponent: p.exponent,
-        retries: p.retries,
-        time: MiniSlot(p.time),
-        size: p.size,
+impl From<Parts> for Phase {
+    ghost from_gives = { λ p phase. phase ≡ phase_of p };
+
+    fn from(p: Parts) -> Phase {
+        let Parts {
+            state,
+            size,
+            exponent,
+            left,
+            retries,
+            time,
+        } = p;
+        match state {
+            IDLE => Phase::Idle,
+            WANTING => Phase::Wanting { size },
+            DEFERRING => Phase::Deferring {
+                exponent,
+                left,
+                retries,
+                size,
+            },
+            _ => Phase::Waiting {
+                exponent,
+                retries,
+                time: MiniSlot(time),
+                size,
+            },
+        }
     }
 }
 
@@ -139,45 +139,40 @@ fn parts_in(rec: &[u32; 12]) -> Parts
 }
 
 // Whether the numbers are no record's at all.
-pub(crate) fn out_of_range(rec: &[u32; 12]) -> bool
+fn out_of_range(rec: &[u32; 12]) -> bool
     ensures { result ≡ out_of_range rec.now }
 {
-    if (255 < rec[1]) | (255 < rec[2]) {
-        return true;
-    }
-    if 1 < rec[4] {
-        return true;
-    }
-    WAITING < rec[6]
+    (255 < rec[1]) | (255 < rec[2]) | (1 < rec[4]) | (WAITING < rec[6])
 }
 
-pub(crate) fn station_of(rec: &[u32; 12]) -> Station
-    requires { out_of_range rec.now ≡ false }
-    ensures { result ≡ station_of rec.now }
+// The station, where the numbers are a record's.
+pub(crate) fn station_in(rec: &[u32; 12]) -> Result<Station, Reason>
+    ensures { result ≡ station_in rec.now }
 {
-    Station {
+    if out_of_range(rec) {
+        return Err(Reason::Size);
+    }
+    Ok(Station {
         sid: rec[0],
         channel: rec[1] as u8,
         count: rec[2] as u8,
         r: rec[3],
         end: remembered(rec[4], rec[5]),
-        phase: phase_of(parts_in(rec)),
-    }
+        phase: Phase::from(parts_in(rec)),
+    })
 }
 
 pub(crate) fn numbers(st: Station) -> [u32; 12]
     ensures { result ≡ numbers_of st }
 {
-    let end = st.end;
-    let phase = st.phase;
-    let p = parts_of(phase);
+    let p = Parts::from(st.phase);
     [
         st.sid,
-        st.channel as u32,
-        st.count as u32,
+        u32::from(st.channel),
+        u32::from(st.count),
         st.r,
-        known(end),
-        end_in(end),
+        flag(st.end),
+        time_in(st.end),
         p.state,
         p.size,
         p.exponent,

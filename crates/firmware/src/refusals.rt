@@ -8,5 +8,5 @@ use rules::Refusal;
 pub(crate) fn code_of(why: Refusal) -> u32
     ensures { result ≡ code_of why }
 {
-    why.number % 256 + 256 * (why.element % 256)
+    why.reason.number() % 256 + 256 * (why.element % 256)
 }
