@@ -14,6 +14,7 @@ use rules::{Fields, Refusal};
 use slots::MiniSlot;
 use station::Station;
 
+// Numbers for C, and a function, as `From` would be for types of others.
 fn field_numbers(reading: Reading) -> [u32; 11]
     ensures { result ≡ field_numbers reading }
 {

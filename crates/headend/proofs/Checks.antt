@@ -7,7 +7,7 @@ use Rattle.rules.specs.declared.refusal.Reason.TheVariants.{Sid, Size, Passed, U
 use Rattle.rules.specs.declared.refusal.Refusal.{Refusal}
 use Rattle.rules.specs.Refusals.{refusal, then}
 use Rattle.std.specs.List.{list_any}
-use mathlib.Core.Bool.{Bool, true, false, cond, not, ◌||◌}
+use mathlib.Core.Bool.{Bool, true, false, not, ◌||◌}
 use mathlib.Core.List.{List}
 use Prim.Native.Nat.{ℕ, ◌≤◌, ◌<◌}
 use native.Mathlib.Omega.{arith}
@@ -20,7 +20,6 @@ use Rattle.rules.specs.Backoffs.{bad_backoff}
 use Rattle.rules.specs.Sids.{unicast}
 use Rattle.message.proofs.Ways.{said, said_not, passed}
 use Rattle.headend.specs.declared.record.Headend.{Headend}
-use Rattle.headend.specs.declared.record.Taking.{Taking}
 use Rattle.headend.specs.declared.record.Request.{Request}
 use Rattle.headend.specs.Requests.{held_of}
 use Rattle.headend.specs.Records.{fresh, set_up_of, bad_size, record_fault, request_fault, joined, request_of}

@@ -56,7 +56,7 @@ impl Request {
     }
 }
 
-// Each on its own: a chain's proof is that of one closure.
+// A function for each of the two: in one function the check would not tell their closures apart.
 fn any_bad_sid(held: &[Request]) -> bool
     ensures { result ≡ list_any (λ q. not (unicast q.sid)) held.now }
 {

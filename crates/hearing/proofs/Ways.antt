@@ -252,7 +252,7 @@ module _ (s : List ℕ) (reading : Reading) (ok : read_of s ≡ Ok reading) (st 
   pub heard_taken : (taken : Taken) (end : MiniSlot) → taken ≡ taken_in st (map_of s) draw → end.0 ≡ moved_on 32 reading.fields.start.0 reading.length →
       ◌≡◌ {A = Hearing} (record {
         station = record { sid = st.sid; channel = st.channel; count = st.count; r = st.r; end = Some end; phase = taken.phase };
-        answer = Ok (record { bursts = taken.bursts; request = taken.request });
+        answer = Ok taken.answer;
       }) (heard_in st (map_of s) draw)
   unfolding station_after
   heard_taken taken end t e =
@@ -271,13 +271,13 @@ module _ (s : List ℕ) (reading : Reading) (ok : read_of s ≡ Ok reading) (st 
   found_own = rw (is, (accepted s reading ok).fields) refl
 
   module _ (draw : ℕ) (waits : Bool) (pending : waits ≡ waiting_with (has_pending st (map_of s)) st.phase) where
-    pub taken_granted : (q : Phase) → (found.bursts ≡ 0 → ⊥) → q ≡ granted waits st.phase → record { bursts = found.bursts; phase = q; request = None } ≡ taken_in st (map_of s) draw
+    pub taken_granted : (q : Phase) → (found.bursts ≡ 0 → ⊥) → q ≡ granted waits st.phase → record { phase = q; answer = record { bursts = found.bursts; request = None } } ≡ taken_in st (map_of s) draw
     unfolding phase_after request_in
     taken_granted q h g = rw (some (grants_to st.sid (map_of s).elements) (λ z. h (found_bursts ∙ z)), g, pending, granted_asked (has_pending st (map_of s)) st.phase, found_bursts) refl
 
     pub taken_quiet : (ready after : Phase) (request : Option MiniSlot) → found.bursts ≡ 0 → ready ≡ deferred reading.fields draw (acknowledged 32 waits reading.fields draw st.phase) →
         after ≡ sending (own st.sid st.r (map_of s)) (contention st.r (map_of s)) ready → request ≡ sent_by ready after →
-        record { bursts = 0; phase = after; request = request } ≡ taken_in st (map_of s) draw
+        record { phase = after; answer = record { bursts = 0; request = request } } ≡ taken_in st (map_of s) draw
     unfolding phase_after request_in quiet_phase ready_phase
     taken_quiet ready after request h d e r =
         rw (none (grants_to st.sid (map_of s).elements) (sym found_bursts ∙ h), sym found_bursts ∙ h, r, e, d, pending, acknowledged_asked 32 (has_pending st (map_of s)) reading.fields draw st.phase, (accepted s reading ok).fields) refl

@@ -67,7 +67,7 @@ sent_in None ts left = passed_by ts left
 
 -- what the four steps come to
 abbrev pub taken_in : Station → Map → ℕ → Taken
-taken_in st m draw = record { bursts = bursts_in st m; phase = phase_after st m draw; request = request_in st m draw }
+taken_in st m draw = record { phase = phase_after st m draw; answer = record { bursts = bursts_in st m; request = request_in st m draw } }
 
 -- what was read, where the station hears it
 abbrev pub heard_by : Station → ℕ → Result Reading Refusal → Result Reading Refusal

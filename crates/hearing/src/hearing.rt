@@ -14,7 +14,9 @@ use rules::{Fields, Reason, Refusal};
 use slots::MiniSlot;
 use station::{Phase, Station, record_fault};
 
-// The answer to a MAP and the station after it; or the refusal, with the station as it came.
+// The answer to a MAP and the station after it; or the refusal, with the station as it came. MAP, present and
+// draw are the call of the paper, here and where a record or a table is lent: a struct of them would be made
+// for one call.
 pub fn hear(station: Station, bytes: &[u8], present: MiniSlot, draw: u16) -> Hearing
     ensures { result ≡ hear_of station bytes.now present.0 draw }
 {
@@ -82,19 +84,15 @@ fn heard(st: Station, map: Map, draw: u16) -> Hearing
             phase: taken.phase,
             ..st
         },
-        answer: Ok(Answer {
-            bursts: taken.bursts,
-            request: taken.request,
-        }),
+        answer: Ok(taken.answer),
     }
 }
 
 // What the four steps come to.
 #[derive(Clone, Copy, PartialEq, Eq)]
 pub(crate) struct Taken {
-    pub bursts: u32,
     pub phase: Phase,
-    pub request: Option<MiniSlot>,
+    pub answer: Answer,
 }
 
 fn take(st: Station, map: Map, draw: u16) -> Taken
@@ -104,16 +102,20 @@ fn take(st: Station, map: Map, draw: u16) -> Taken
     let waits = map.waiting_with_pending(st.sid, st.phase);
     if found.bursts != 0 {
         return Taken {
-            bursts: found.bursts,
             phase: after_grant(waits, st.phase),
-            request: None,
+            answer: Answer {
+                bursts: found.bursts,
+                request: None,
+            },
         };
     }
     let ready = ready_phase(waits, map.reading.fields, draw, st.phase);
     let after = after_deferring(st, map, found.own, ready);
     Taken {
-        bursts: 0,
         phase: after,
-        request: sent_by(ready, after),
+        answer: Answer {
+            bursts: 0,
+            request: sent_by(ready, after),
+        },
     }
 }

@@ -36,7 +36,7 @@ fn bad_plan(c: u32, budget: u32) -> bool
     (c == 0) | (Headend::LONGEST_MAP < budget) | (budget < c)
 }
 
-// What is wrong before the MAP is made.
+// What is wrong before the MAP is made. Ack Time, c and budget are the call of the paper.
 fn call_fault(h: Headend, ack: MiniSlot, c: u32, budget: u32, room: usize) -> Result<(), Reason>
     ensures { result ≡ call_fault h ack.0 c budget room }
 {

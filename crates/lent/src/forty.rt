@@ -14,7 +14,7 @@ pub struct Forty {
     pub stations: [Station; 40],
 }
 
-// The part that is lent. Where it would not lie within the forty, all of them are, which is too large a table.
+// The part that is lent, by the names that `window_of` of specs/Forty.antt has for its ends. Where it would not lie within the forty, all of them are, which is too large a table.
 #[derive(Clone, Copy)]
 pub(crate) struct Window {
     pub from: usize,

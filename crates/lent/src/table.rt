@@ -1,5 +1,5 @@
 // A lent table of stations that hear one MAP, record by record.
-ghost use Rattle.std.specs.Prelude.{◌≡◌, ◌<◌, length, get_or};
+ghost use Rattle.std.specs.Prelude.{◌≡◌};
 ghost use Rattle.lent.specs.Table.{table_fault, number_in, placed_of, HearsTable};
 
 use hearing::{Answer, hear};
@@ -7,7 +7,8 @@ use rules::{Reason, Refusal};
 use slots::MiniSlot;
 use station::Station;
 
-// A record after its hearing, and what its place takes.
+// A record after its hearing, and what its place takes: a number, as the paper has it. A further place stays
+// as it came, whatever it holds, so that no Option could say it.
 #[derive(Clone, Copy, PartialEq, Eq)]
 pub(crate) struct Placed {
     pub station: Station,
@@ -39,19 +40,17 @@ fn number_in(answer: Result<Answer, Refusal>) -> u32
     }
 }
 
-// The hearing of the record at a place, with its own draw.
-fn hear_at(st: Station, bytes: &[u8], present: MiniSlot, draws: &[u16], i: usize) -> Placed
-    requires { i < length draws.now }
-    ensures { result ≡ placed_of st bytes.now present.0 (get_or draws.now i 0) }
+fn heard(st: Station, bytes: &[u8], present: MiniSlot, draw: u16) -> Placed
+    ensures { result ≡ placed_of st bytes.now present.0 draw }
 {
-    let h = hear(st, bytes, present, draws[i]);
+    let h = hear(st, bytes, present, draw);
     Placed {
         station: h.station,
         number: number_in(h.answer),
     }
 }
 
-// The places take numbers, as the paper has it: a further one stays as it came, whatever it holds.
+// Records, draws and places are lent apart, as the paper has the call.
 pub fn hear_table(
     table: &mut [Station],
     bytes: &[u8],
@@ -63,7 +62,7 @@ pub fn hear_table(
 {
     table_fault(table.len(), draws.len(), places.len())?;
     for i in 0..table.len() {
-        let h = hear_at(table[i], bytes, present, draws, i);
+        let h = heard(table[i], bytes, present, draws[i]);
         table[i] = h.station;
         places[i] = h.number;
     }

@@ -7,7 +7,8 @@ use crate::bodies::Row;
 use rules::Reason;
 use slots::Span;
 
-// The lent bytes, and how many of them the lines so far take. Not the `Text` of stream, which report doesn't
+// The lent bytes, and how many of them the lines so far take, as there is no telling of the bytes alone. Not
+// the `Text` of stream, which report doesn't
 // lean on: a text may lack room and says so at its end; a line here has room, by a clause.
 #[derive(Drop)]
 pub(crate) struct Lines<'a> {

@@ -60,8 +60,8 @@ impl Station {
     pub const LARGEST_TABLE: usize = 32;
 }
 
-// The headend has a test of its own for a request: neither crate leans on the other, and each edit of the
-// one limit is told from the other's.
+// A packet's limit, r's below and a grant's (headend) are three numbers of the paper, each tested where it
+// stands; what they share is `within`.
 pub(crate) fn bad_size(size: u32) -> bool
     ensures { result ≡ bad_size size }
 {

@@ -1,4 +1,4 @@
-use Rattle.std.proofs.Common.{◌≡◌, ◌-◌, ◌∙◌, arith, sym, refl, length}
+use Rattle.std.proofs.Common.{◌∙◌, arith, sym, refl, length}
 use Rattle.std.proofs.Math.Nat.{sub-zero}
 use lib.ListN.{length-set}
 use Rattle.std.proofs.lemmas.Result.{err_from_is_err_and}
@@ -11,8 +11,8 @@ returns-in_err-table_fault c = let p = err_from_is_err_and c.from_residual.resul
 pub loop-i-init : goal.loop-i-init
 loop-i-init c = record { inside = omega arith; table = refl; answers = refl; records = rw sub-zero; numbers = rw sub-zero }
 
-pub hear_at-h-requires : goal.hear_at-h-requires
-hear_at-h-requires c = let fits = fault_fits _ _ _ (sym c.table_fault.ensures ∙ c.in_ok-table_fault.was) in omega (arith, fits.0, c.loop-i-test.true)
+pub bounds-draws-i : goal.bounds-draws-i
+bounds-draws-i c = let fits = fault_fits _ _ _ (sym c.table_fault.ensures ∙ c.in_ok-table_fault.was) in omega (arith, fits.0, c.loop-i-test.true)
 
 pub bounds-places-i : goal.bounds-places-i
 bounds-places-i c = let fits = fault_fits _ _ _ (sym c.table_fault.ensures ∙ c.in_ok-table_fault.was) in omega (arith, fits.1, c.loop-i-test.true, c.loop-i.invariant.answers)
@@ -21,12 +21,12 @@ pub loop-i-preserved : goal.loop-i-preserved
 loop-i-preserved c =
     let l = c.loop-i in
     let a = c.args in
-    let p = c.hear_at-h.result in record {
+    let p = c.heard-h.result in record {
       inside = omega (arith, c.loop-i-test.true);
       table = length-set l.table l.i p.station ∙ l.invariant.table;
       answers = length-set l.places l.i p.number ∙ l.invariant.answers;
-      records = turn_s a.bytes.now a.present.0 a.draws.now (length a.table.now) l.i l.table p c.loop-i-test.true c.hear_at-h.ensures ∙ l.invariant.records;
-      numbers = turn_p a.bytes.now a.present.0 a.draws.now (length a.table.now) l.i l.table l.places p c.loop-i-test.true c.hear_at-h.ensures ∙ l.invariant.numbers;
+      records = turn_s a.bytes.now a.present.0 a.draws.now (length a.table.now) l.i l.table p c.loop-i-test.true c.heard-h.ensures ∙ l.invariant.records;
+      numbers = turn_p a.bytes.now a.present.0 a.draws.now (length a.table.now) l.i l.table l.places p c.loop-i-test.true c.heard-h.ensures ∙ l.invariant.numbers;
     }
 
 pub returns : goal.returns
