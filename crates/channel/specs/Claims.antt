@@ -15,7 +15,7 @@ use Rattle.headend.specs.declared.record.Request.{Request}
 use Rattle.headend.specs.Requests.{held_of}
 use Rattle.headend.specs.Records as records
 use Rattle.channel.specs.History.{Issue, bytes_of, map_in, Sending, State, station_at}
-use Rattle.std.specs.Prelude.{Option, Ok}
+use Rattle.std.specs.Prelude.{Option}
 
 -- "Take one headend .. freshly set up"; its next start is a 32-bit count
 pub record FreshHeadend (h : Headend) (channel count : ℕ) : Type 0 where

@@ -21,7 +21,7 @@ use Rattle.station.specs.Offering.{offer_of}
 use Rattle.hearing.specs.declared.answer.Answer.{Answer}
 use Rattle.hearing.specs.Hearing.{hear_of}
 use Rattle.firmware.specs.Codes.{code_of}
-use Rattle.firmware.specs.Steps.{station_in, taken_by, offered_to, heard_by, heard_at}
+use Rattle.firmware.specs.Scan.{station_in, taken_by, offered_to, heard_by, heard_at}
 use Rattle.firmware.specs.Calls.{code_in, set_up_into, offered_into, offer_code, offer_into, heard_into, heard_answer, hear_code, hear_into, hear_answer}
 use Rattle.firmware.specs.Layout.{remembered, phase_of, out_of_range, station_of, numbers_of}
 

@@ -1,4 +1,4 @@
 pub mod Codes
 pub mod Layout
 pub mod Calls
-pub mod Steps
+pub mod Scan

@@ -4,7 +4,7 @@ ghost use Rattle.message.specs.Reading.{read_of};
 ghost use Rattle.message.specs.Grants.{grant_of};
 ghost use Rattle.station.specs.Offering.{set_up_of};
 ghost use Rattle.firmware.specs.Calls.{field_numbers, code_in, read_into, grant_into, set_up_into, offer_code, offer_into, hear_code, hear_into, hear_answer};
-ghost use Rattle.firmware.specs.Steps.{put_in, grant_numbers, station_in, offered_to, heard_at};
+ghost use Rattle.firmware.specs.Scan.{put_in, grant_numbers, station_in, offered_to, heard_at};
 
 use crate::layout::{flag, numbers, station_in, time_in};
 use crate::refusals::code_of;

@@ -1,7 +1,7 @@
 // A station's record as twelve numbers.
 ghost use Rattle.std.specs.Prelude.{◌≡◌};
 ghost use Rattle.firmware.specs.Layout.{known, end_in, remembered, undeferred, parts_of, phase_of, parts_in, out_of_range, numbers_of};
-ghost use Rattle.firmware.specs.Steps.{station_in};
+ghost use Rattle.firmware.specs.Scan.{station_in};
 
 use rules::Reason;
 use slots::MiniSlot;

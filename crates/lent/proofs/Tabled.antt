@@ -14,6 +14,7 @@ use Rattle.hearing.specs.declared.answer.Hearing.{Hearing}
 use Rattle.lent.specs.Table.{table_fault, number_in, placed, placed_of, records_after, places_after, table_of, places_of, HearsTable}
 use Rattle.std.specs.Prelude.{Result, Ok, Err}
 use Rattle.rules.specs.declared.refusal.Reason.{Reason}
+use Rattle.rules.specs.Refusals.{changed}
 use Rattle.rules.specs.declared.refusal.Reason.TheVariants.{Size}
 use Rattle.message.proofs.Ways.{passed}
 use Rattle.lent.specs.declared.table.Placed.{Placed}
@@ -105,16 +106,32 @@ module _ (bytes : List ℕ) (present : ℕ) (draws : List ℕ) (xs : List Statio
   pub table_refused : (why : Reason) → f ≡ Err why → HearsTable bytes present draws xs zs xs zs (Err why)
   table_refused why h = let e = sym is ∙ h in (sym e, (rw e refl, rw e refl))
 
-  -- .. and the loop's end
-  module _ (good : f ≡ Ok tt) (i : ℕ) (ended : length xs ≤ i) (now : List Station) where
-    fits : (length xs ≤ length draws) × (length xs ≤ length zs)
-    fits = fault_fits (length xs) (length draws) (length zs) (sym is ∙ good)
+  -- all turns make what the contract says: as many as there are records, or none
+  all_s : (n : ℕ) → n ≡ changed f (length xs) 0 → go_s bytes present draws n 0 xs ≡ table_of bytes present draws xs zs
+  all_s n worked = go f refl
+    where
+      go : (v : Result Unit Reason) → f ≡ v → go_s bytes present draws n 0 xs ≡ table_of bytes present draws xs zs
+      go (Ok u) h =
+          let fits = fault_fits (length xs) (length draws) (length zs) (sym is ∙ h) in
+          rw (worked, h, sym is ∙ h) (go_s_is bytes present draws (length xs) 0 xs (omega arith) fits.0)
+      go (Err why) h = rw (worked, h, sym is ∙ h) refl
 
-    none_left : length xs - i ≡ 0
+  all_p : (n : ℕ) → n ≡ changed f (length xs) 0 → go_p bytes present draws n 0 xs zs ≡ places_of bytes present draws xs zs
+  all_p n worked = go f refl
+    where
+      go : (v : Result Unit Reason) → f ≡ v → go_p bytes present draws n 0 xs zs ≡ places_of bytes present draws xs zs
+      go (Ok u) h =
+          let fits = fault_fits (length xs) (length draws) (length zs) (sym is ∙ h) in
+          rw (worked, h, sym is ∙ h) (go_p_is bytes present draws (length xs) 0 xs zs (omega arith) fits.0 fits.1)
+      go (Err why) h = rw (worked, h, sym is ∙ h) refl
+
+  -- .. and the loop's end
+  module _ (n : ℕ) (worked : n ≡ changed f (length xs) 0) (i : ℕ) (ended : n ≤ i) (now : List Station) where
+    none_left : n - i ≡ 0
     none_left = omega arith
 
-    pub ends_s : go_s bytes present draws (length xs - i) i now ≡ go_s bytes present draws (length xs) 0 xs → now ≡ table_of bytes present draws xs zs
-    ends_s e = (rw none_left at e) ∙ go_s_is bytes present draws (length xs) 0 xs (omega arith) fits.0 ∙ rw (sym is ∙ good) refl
+    pub ends_s : go_s bytes present draws (n - i) i now ≡ go_s bytes present draws n 0 xs → now ≡ table_of bytes present draws xs zs
+    ends_s e = (rw none_left at e) ∙ all_s n worked
 
-    pub ends_p : (at : List ℕ) → go_p bytes present draws (length xs - i) i now at ≡ go_p bytes present draws (length xs) 0 xs zs → at ≡ places_of bytes present draws xs zs
-    ends_p at e = (rw none_left at e) ∙ go_p_is bytes present draws (length xs) 0 xs zs (omega arith) fits.0 fits.1 ∙ rw (sym is ∙ good) refl
+    pub ends_p : (at : List ℕ) → go_p bytes present draws (n - i) i now at ≡ go_p bytes present draws n 0 xs zs → at ≡ places_of bytes present draws xs zs
+    ends_p at e = (rw none_left at e) ∙ all_p n worked

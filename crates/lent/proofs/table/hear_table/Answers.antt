@@ -1,9 +1,10 @@
-use Rattle.std.proofs.Common.{◌∙◌, arith, sym, refl, length}
+use Rattle.std.proofs.Common.{◌≡◌, ◌∙◌, arith, sym, refl, length}
 use Rattle.std.proofs.Math.Nat.{sub-zero}
 use lib.ListN.{length-set}
 use Rattle.std.proofs.lemmas.Result.{err_from_is_err_and}
 use Rattle.lent.proofs.Tabled.{fault_fits, table_refused, turn_s, turn_p, ends_s, ends_p}
 use Rattle.lent.proofs.table.hear_table.Goals as goal
+use Rattle.rules.specs.Refusals.{changed}
 
 pub returns-in_err-table_fault : goal.returns-in_err-table_fault
 returns-in_err-table_fault c = let p = err_from_is_err_and c.from_residual.result c.from_residual.ensures.1 in rw (p.1, p.2) (table_refused _ _ _ _ _ _ c.table_fault.ensures _ c.in_err-table_fault.was)
@@ -32,10 +33,12 @@ loop-i-preserved c =
 pub returns : goal.returns
 returns c =
     let l = c.loop-i in
+    let n = length c.args.table.now in
+    let all : n ≡ changed c.table_fault.result n 0 = rw c.in_ok-table_fault.was refl in
     let e = sym c.table_fault.ensures ∙ c.in_ok-table_fault.was in (
       sym e,
       (
-        ends_s _ _ _ _ _ _ c.table_fault.ensures c.in_ok-table_fault.was l.i c.loop-i-test.false l.table l.invariant.records,
-        ends_p _ _ _ _ _ _ c.table_fault.ensures c.in_ok-table_fault.was l.i c.loop-i-test.false l.table l.places l.invariant.numbers,
+        ends_s _ _ _ _ _ _ c.table_fault.ensures n all l.i c.loop-i-test.false l.table l.invariant.records,
+        ends_p _ _ _ _ _ _ c.table_fault.ensures n all l.i c.loop-i-test.false l.table l.places l.invariant.numbers,
       ),
     )

@@ -1,4 +1,4 @@
--- What the functions between a call's answer and its numbers give.
+-- What the functions between a call's answer and its numbers give, for those private ones alone: no public promise cites these.
 use Rattle.std.specs.Prelude.{ℕ, cond, List, [], ◌∷◌, Option, Some, None, Result, Ok, Err}
 use Rattle.rules.specs.declared.refusal.Reason.{Reason}
 use Rattle.rules.specs.declared.refusal.Reason.TheVariants.{Size}
