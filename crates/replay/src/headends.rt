@@ -1,7 +1,7 @@
 // The calls on one headend: each puts its answer into the text, and the headend after it into its
 // place.
 use crate::bad::Bad;
-use crate::numbers::{at, backoff, triples};
+use crate::numbers::{at, of_channel, triples};
 use crate::print::{Hex, OfHeadend, Refused};
 use headend::{Headend, Request};
 use rules::Backoff;
@@ -33,10 +33,7 @@ fn whole(headend: &Headend) -> OfHeadend {
 pub fn set_up(headends: &mut [Headend], numbers: &[u32], out: &mut Text) -> Result<(), Bad> {
     let (headend, numbers) = at(headends, numbers)?;
     let [next, channel, count, rs, re, ds, de, short] = <[u32; 8]>::try_from(numbers)?;
-    let channel = u8::try_from(channel)?;
-    let count = u8::try_from(count)?;
-    let ranging = backoff(rs, re)?;
-    let data = backoff(ds, de)?;
+    let (channel, count, ranging, data) = of_channel([channel, count, rs, re, ds, de])?;
     match Headend::new(MiniSlot(next), channel, count, ranging, data, short) {
         Ok(made) => {
             *headend = made;
@@ -61,21 +58,24 @@ pub fn holding(headends: &mut [Headend], numbers: &[u32], out: &mut Text) -> Res
         de,
         short,
         held,
-        requests @ ..,
+        given @ ..,
     ] = numbers
     else {
         return Err(Bad);
     };
+    let (channel, count, ranging, data) = of_channel([*channel, *count, *rs, *re, *ds, *de])?;
+    let mut requests = [Request::SPARE; 64];
+    triples(given, &mut requests)?;
     *headend = Headend {
         next: MiniSlot(*next),
         ack: MiniSlot(*ack),
-        channel: u8::try_from(*channel)?,
-        count: u8::try_from(*count)?,
-        ranging: backoff(*rs, *re)?,
-        data: backoff(*ds, *de)?,
+        channel,
+        count,
+        ranging,
+        data,
         short: *short,
         held: *held,
-        requests: triples(requests, Request::SPARE)?.0,
+        requests,
     };
     write!(out, "headend {}", whole(headend))?;
     Ok(())

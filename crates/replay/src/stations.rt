@@ -40,6 +40,8 @@ pub fn set_up(stations: &mut [Station], numbers: &[u32], out: &mut Text) -> Resu
     Ok(())
 }
 
+// docs/REPLAY.md's numbers, here and in `phase`; firmware has its own for C, on which nothing else can
+// stand, and its states are range-checked before: here a bad one is `Bad`.
 fn remembered(known: u32, end: u32) -> Result<Option<MiniSlot>, Bad> {
     match known {
         0 => Ok(None),
