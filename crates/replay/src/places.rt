@@ -22,7 +22,7 @@ impl Places {
         }
     }
 
-    // Each word has an arm, and so each call what it needs: in a table of functions all would take the same.
+    // An arm a word, and each call takes what it needs: a table of functions would have one type for all.
     pub fn call(&mut self, line: Line, out: &mut Text) -> Result<(), Bad> {
         match line.word {
             Word::Read => messages::read(line.numbers, line.hex()?, out),
