@@ -5,7 +5,7 @@
 ghost use Rattle.std.specs.Prelude.{◌≤◌};
 
 use headend::Headend;
-use rules::Backoff;
+use rules::{Backoff, Refusal};
 use slots::MiniSlot;
 use std::fmt;
 use std::fmt::{Display, Write};
@@ -44,69 +44,18 @@ impl Display for Bytes<'_> {
     }
 }
 
-// The headend after a request, and what it answered.
-fn request(
-    rt: &HostRuntime,
-    headend: Headend,
-    sid: u32,
-    size: u32,
-    first: u32,
-) -> Result<Headend, Failed> {
-    let taking = headend.request(sid, size, MiniSlot(first));
-    match taking.answer {
-        Ok(()) => tell(rt, format_args!("request {sid} {size} {first} taken"))?,
-        Err(why) => {
-            let number = why.reason.number();
-            tell(
-                rt,
-                format_args!("request {sid} {size} {first} refused {number}"),
-            )?;
-        }
-    }
-    Ok(taking.headend)
-}
+// A refusal's number.
+#[derive(Drop)]
+struct Refused(Refusal);
 
-// .. and after an issue into the lent room.
-fn issue(
-    rt: &HostRuntime,
-    headend: Headend,
-    ack: u32,
-    c: u32,
-    budget: u32,
-    room: &mut [u8],
-) -> Result<Headend, Failed> {
-    let issuing = issuing::issue(headend, MiniSlot(ack), c, budget, room);
-    match issuing.answer {
-        Ok(size) => tell(rt, format_args!("issue {ack} {c} {budget} size {size}"))?,
-        Err(why) => {
-            let number = why.reason.number();
-            tell(
-                rt,
-                format_args!("issue {ack} {c} {budget} refused {number}"),
-            )?;
-        }
+impl Display for Refused {
+    fn fmt<W: fmt::Write>(&self, f: &mut fmt::Formatter<W>) -> fmt::Result {
+        write!(f, "refused {}", self.0.reason.number())
     }
-    Ok(issuing.headend)
-}
-
-// .. with the bytes that stand in a room of so many then.
-fn issue_in<const ROOM: usize>(
-    rt: &HostRuntime,
-    headend: Headend,
-    ack: u32,
-    c: u32,
-    budget: u32,
-) -> Result<Headend, Failed>
-    requires { ROOM ≤ 28 }
-{
-    let mut room = [0xAAu8; ROOM];
-    let headend = issue(rt, headend, ack, c, budget, &mut room)?;
-    tell(rt, Bytes(&room))?;
-    Ok(headend)
 }
 
 // None where the set-up is refused.
-fn set_up(rt: &HostRuntime, next: u32, most: u8) -> Result<Option<Headend>, Failed> {
+fn set_up(rt: &HostRuntime, next: u32, most: u8) -> Result<Option<Run<'_>>, Failed> {
     let ranging = Backoff { start: 0, end: 4 };
     let data = Backoff {
         start: 2,
@@ -115,88 +64,137 @@ fn set_up(rt: &HostRuntime, next: u32, most: u8) -> Result<Option<Headend>, Fail
     match Headend::new(MiniSlot(next), 1, 2, ranging, data, 16) {
         Ok(headend) => {
             tell(rt, format_args!("set up {next} taken"))?;
-            Ok(Some(headend))
+            Ok(Some(Run { rt, headend }))
         }
         Err(why) => {
-            let number = why.reason.number();
-            tell(rt, format_args!("set up {next} refused {number}"))?;
+            tell(rt, format_args!("set up {next} {}", Refused(why)))?;
             Ok(None)
         }
     }
 }
 
-// 64 requests, and no word about them.
-fn filled(mut headend: Headend) -> Headend {
-    for sid in 1..=64 {
-        headend = headend.request(sid, 1, MiniSlot(975)).headend;
+// A headend, and where its answers are told. Each method answers the run with the headend after it.
+#[derive(Clone, Copy)]
+struct Run<'a> {
+    rt: &'a HostRuntime,
+    headend: Headend,
+}
+
+impl<'a> Run<'a> {
+    fn request(self, sid: u32, size: u32, first: u32) -> Result<Run<'a>, Failed> {
+        let Run { rt, headend } = self;
+        let taking = headend.request(sid, size, MiniSlot(first));
+        match taking.answer {
+            Ok(()) => tell(rt, format_args!("request {sid} {size} {first} taken"))?,
+            Err(why) => tell(
+                rt,
+                format_args!("request {sid} {size} {first} {}", Refused(why)),
+            )?,
+        }
+        Ok(Run {
+            rt,
+            headend: taking.headend,
+        })
     }
-    headend
-}
 
-fn fresh(rt: &HostRuntime, h: Headend) -> Result<(), Failed> {
-    request(rt, h, 5, 24, 959)?;
-    request(rt, h, 5, 24, 960)?;
-    request(rt, h, 5, 24, 961)?;
-    issue_in::<24>(rt, h, 959, 10, 10)?;
-    issue_in::<24>(rt, h, 961, 10, 10)?;
-    Ok(())
-}
+    // Into the lent room.
+    fn issue(self, ack: u32, c: u32, budget: u32, room: &mut [u8]) -> Result<Run<'a>, Failed> {
+        let Run { rt, headend } = self;
+        let issuing = issuing::issue(headend, MiniSlot(ack), c, budget, room);
+        match issuing.answer {
+            Ok(size) => tell(rt, format_args!("issue {ack} {c} {budget} size {size}"))?,
+            Err(why) => tell(
+                rt,
+                format_args!("issue {ack} {c} {budget} {}", Refused(why)),
+            )?,
+        }
+        Ok(Run {
+            rt,
+            headend: issuing.headend,
+        })
+    }
 
-// The requests of a full table; once some are granted, their room is used again.
-fn full(rt: &HostRuntime, h: Headend) -> Result<(), Failed> {
-    let h = filled(h);
-    request(rt, h, 65, 1, 975)?;
-    request(rt, h, 5, 1, 975)?;
-    let mut room = [0u8; 280];
-    let h = issue(rt, h, 980, 6, 30, &mut room)?;
-    request(rt, h, 65, 1, 981)?;
-    Ok(())
-}
+    // .. with the bytes that stand in a room of so many then.
+    fn issue_in<const ROOM: usize>(self, ack: u32, c: u32, budget: u32) -> Result<Run<'a>, Failed>
+        requires { ROOM ≤ 28 }
+    {
+        let mut room = [0xAAu8; ROOM];
+        let after = self.issue(ack, c, budget, &mut room)?;
+        tell(after.rt, Bytes(&room))?;
+        Ok(after)
+    }
 
-fn bad_plans(rt: &HostRuntime, h: Headend) -> Result<(), Failed> {
-    issue_in::<28>(rt, h, 980, 6, 4097)?;
-    issue_in::<28>(rt, h, 980, 0, 30)?;
-    issue_in::<28>(rt, h, 980, 31, 30)?;
-    Ok(())
-}
+    // 64 requests, and no word about them.
+    fn filled(mut self) -> Run<'a> {
+        for sid in 1..=64 {
+            self.headend = self.headend.request(sid, 1, MiniSlot(975)).headend;
+        }
+        self
+    }
 
-// Both counters roll over.
-fn rolled(rt: &HostRuntime) -> Result<(), Failed> {
-    let Some(h) = set_up(rt, 4294967290, 6)? else {
-        return Ok(());
-    };
-    let h = issue_in::<24>(rt, h, 4294967290, 10, 10)?;
-    let h = request(rt, h, 7, 3, 4294967295)?;
-    issue_in::<28>(rt, h, 4, 6, 30)?;
-    Ok(())
-}
+    fn fresh(self) -> Result<(), Failed> {
+        self.request(5, 24, 959)?;
+        self.request(5, 24, 960)?;
+        self.request(5, 24, 961)?;
+        self.issue_in::<24>(959, 10, 10)?;
+        self.issue_in::<24>(961, 10, 10)?;
+        Ok(())
+    }
 
-fn issues(rt: &HostRuntime, h: Headend) -> Result<(), Failed> {
-    fresh(rt, h)?;
-    let h = issue_in::<24>(rt, h, 960, 10, 10)?;
-    let h = issue_in::<24>(rt, h, 960, 30, 30)?;
-    full(rt, h)?;
-    let h = request(rt, h, 5, 24, 975)?;
-    request(rt, h, 5, 24, 976)?;
-    // The room is one byte short, and stays as it was.
-    issue_in::<27>(rt, h, 980, 6, 30)?;
-    bad_plans(rt, h)?;
-    issue_in::<28>(rt, h, 980, 6, 30)?;
-    issue_in::<28>(rt, h, 980, 6, 29)?;
-    Ok(())
+    // The requests of a full table; once some are granted, their room is used again.
+    fn full(self) -> Result<(), Failed> {
+        let full = self.filled();
+        full.request(65, 1, 975)?;
+        full.request(5, 1, 975)?;
+        let mut room = [0u8; 280];
+        full.issue(980, 6, 30, &mut room)?.request(65, 1, 981)?;
+        Ok(())
+    }
+
+    fn bad_plans(self) -> Result<(), Failed> {
+        self.issue_in::<28>(980, 6, 4097)?;
+        self.issue_in::<28>(980, 0, 30)?;
+        self.issue_in::<28>(980, 31, 30)?;
+        Ok(())
+    }
+
+    // Both counters roll over.
+    fn rolled(self) -> Result<(), Failed> {
+        let after = self.issue_in::<24>(4294967290, 10, 10)?;
+        let after = after.request(7, 3, 4294967295)?;
+        after.issue_in::<28>(4, 6, 30)?;
+        Ok(())
+    }
+
+    fn issues(self) -> Result<(), Failed> {
+        self.fresh()?;
+        let after = self.issue_in::<24>(960, 10, 10)?;
+        let after = after.issue_in::<24>(960, 30, 30)?;
+        after.full()?;
+        let after = after.request(5, 24, 975)?;
+        after.request(5, 24, 976)?;
+        // The room is one byte short, and stays as it was.
+        after.issue_in::<27>(980, 6, 30)?;
+        after.bad_plans()?;
+        after.issue_in::<28>(980, 6, 30)?;
+        after.issue_in::<28>(980, 6, 29)?;
+        Ok(())
+    }
 }
 
 // Once a line could not be told, no other is.
-fn run(rt: &HostRuntime) -> Result<(), Failed> {
-    if let Some(h) = set_up(rt, 960, 6)? {
-        issues(rt, h)?;
+fn told(rt: &HostRuntime) -> Result<(), Failed> {
+    if let Some(run) = set_up(rt, 960, 6)? {
+        run.issues()?;
     }
-    rolled(rt)?;
+    if let Some(run) = set_up(rt, 4294967290, 6)? {
+        run.rolled()?;
+    }
     set_up(rt, 960, 1)?;
     Ok(())
 }
 
 // A failure was said, and makes no exit status.
 fn main(rt: HostRuntime) {
-    let _ = run(&rt);
+    let _ = told(&rt);
 }

@@ -1,9 +1,8 @@
 // The calls on one headend: each puts its answer into the text, and the headend after it into its
 // place.
 use crate::bad::Bad;
-use crate::numbers::{backoff, triples};
+use crate::numbers::{at, of_channel, triples};
 use crate::print::{Hex, OfHeadend, Refused};
-use crate::words::Word;
 use headend::{Headend, Request};
 use rules::Backoff;
 use slots::MiniSlot;
@@ -26,28 +25,15 @@ pub fn untouched() -> Headend {
     }
 }
 
-pub fn call(headend: &mut Headend, word: Word, numbers: &[u32], out: &mut Text) -> Result<(), Bad> {
-    match word {
-        Word::Headend => set_up(headend, numbers, out),
-        Word::Holding => holding(headend, numbers, out),
-        Word::Held => held(headend, numbers, out),
-        Word::Request => request(headend, numbers, out),
-        Word::Issue => issue(headend, numbers, out),
-        _ => Err(Bad),
-    }
-}
-
 // With the places that hold a request.
 fn whole(headend: &Headend) -> OfHeadend {
     OfHeadend(*headend, headend.held as usize)
 }
 
-fn set_up(headend: &mut Headend, numbers: &[u32], out: &mut Text) -> Result<(), Bad> {
+pub fn set_up(headends: &mut [Headend], numbers: &[u32], out: &mut Text) -> Result<(), Bad> {
+    let (headend, numbers) = at(headends, numbers)?;
     let [next, channel, count, rs, re, ds, de, short] = <[u32; 8]>::try_from(numbers)?;
-    let channel = u8::try_from(channel)?;
-    let count = u8::try_from(count)?;
-    let ranging = backoff(rs, re)?;
-    let data = backoff(ds, de)?;
+    let (channel, count, ranging, data) = of_channel([channel, count, rs, re, ds, de])?;
     match Headend::new(MiniSlot(next), channel, count, ranging, data, short) {
         Ok(made) => {
             *headend = made;
@@ -59,7 +45,8 @@ fn set_up(headend: &mut Headend, numbers: &[u32], out: &mut Text) -> Result<(), 
 }
 
 // 64 triples at most.
-fn holding(headend: &mut Headend, numbers: &[u32], out: &mut Text) -> Result<(), Bad> {
+pub fn holding(headends: &mut [Headend], numbers: &[u32], out: &mut Text) -> Result<(), Bad> {
+    let (headend, numbers) = at(headends, numbers)?;
     let [
         next,
         ack,
@@ -71,28 +58,32 @@ fn holding(headend: &mut Headend, numbers: &[u32], out: &mut Text) -> Result<(),
         de,
         short,
         held,
-        requests @ ..,
+        given @ ..,
     ] = numbers
     else {
         return Err(Bad);
     };
+    let (channel, count, ranging, data) = of_channel([*channel, *count, *rs, *re, *ds, *de])?;
+    let mut requests = [Request::SPARE; 64];
+    triples(given, &mut requests)?;
     *headend = Headend {
         next: MiniSlot(*next),
         ack: MiniSlot(*ack),
-        channel: u8::try_from(*channel)?,
-        count: u8::try_from(*count)?,
-        ranging: backoff(*rs, *re)?,
-        data: backoff(*ds, *de)?,
+        channel,
+        count,
+        ranging,
+        data,
         short: *short,
         held: *held,
-        requests: triples(requests, Request::SPARE)?.0,
+        requests,
     };
     write!(out, "headend {}", whole(headend))?;
     Ok(())
 }
 
 // As many places as the line says, spare ones too; else those that hold a request.
-fn held(headend: &Headend, numbers: &[u32], out: &mut Text) -> Result<(), Bad> {
+pub fn held(headends: &mut [Headend], numbers: &[u32], out: &mut Text) -> Result<(), Bad> {
+    let (headend, numbers) = at(headends, numbers)?;
     match numbers {
         [] => write!(out, "headend {}", whole(headend))?,
         [places] if *places <= 64 => {
@@ -103,7 +94,8 @@ fn held(headend: &Headend, numbers: &[u32], out: &mut Text) -> Result<(), Bad> {
     Ok(())
 }
 
-fn request(headend: &mut Headend, numbers: &[u32], out: &mut Text) -> Result<(), Bad> {
+pub fn request(headends: &mut [Headend], numbers: &[u32], out: &mut Text) -> Result<(), Bad> {
+    let (headend, numbers) = at(headends, numbers)?;
     let [sid, size, first] = <[u32; 3]>::try_from(numbers)?;
     let taking = headend.request(sid, size, MiniSlot(first));
     *headend = taking.headend;
@@ -116,7 +108,8 @@ fn request(headend: &mut Headend, numbers: &[u32], out: &mut Text) -> Result<(),
 }
 
 // The answer, and what the lent bytes hold then.
-fn issue(headend: &mut Headend, numbers: &[u32], out: &mut Text) -> Result<(), Bad> {
+pub fn issue(headends: &mut [Headend], numbers: &[u32], out: &mut Text) -> Result<(), Bad> {
+    let (headend, numbers) = at(headends, numbers)?;
     let [ack, c, budget, room] = <[u32; 4]>::try_from(numbers)?;
     let mut bytes = [0xA5u8; 1000];
     let lent = bytes.get_mut(..room as usize).ok_or(Bad)?;

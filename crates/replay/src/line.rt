@@ -84,4 +84,17 @@ impl<'a> Line<'a> {
             bytes: bytes_of(hex, bytes)?,
         })
     }
+
+    // The bytes of a call whose line a hex token ends.
+    pub fn hex(self) -> Result<&'a [u8], Bad> {
+        self.bytes.ok_or(Bad)
+    }
+
+    // The numbers of a call whose line none ends.
+    pub fn alone(self) -> Result<&'a [u32], Bad> {
+        match self.bytes {
+            Some(_) => Err(Bad),
+            None => Ok(self.numbers),
+        }
+    }
 }

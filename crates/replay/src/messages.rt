@@ -1,6 +1,6 @@
 // The calls on messages and on times: each puts its answer into the text.
 use crate::bad::Bad;
-use crate::numbers::{backoff, triples};
+use crate::numbers::{of_channel, triples};
 use crate::print::{Ends, Hex, Refused};
 use message::Reading;
 use rules::{Element, Fields, Reason, Refusal};
@@ -50,33 +50,23 @@ const NO_ELEMENT: Element = Element {
 
 // The answer, and then what the lent bytes hold.
 pub fn write(numbers: &[u32], out: &mut Text) -> Result<(), Bad> {
-    let [
-        room,
-        channel,
-        count,
-        start,
-        ack,
-        rs,
-        re,
-        ds,
-        de,
-        elements @ ..,
-    ] = numbers
-    else {
+    let [room, channel, count, start, ack, rs, re, ds, de, given @ ..] = numbers else {
         return Err(Bad);
     };
+    let (channel, count, ranging, data) = of_channel([*channel, *count, *rs, *re, *ds, *de])?;
     let fields = Fields {
-        channel: u8::try_from(*channel)?,
-        count: u8::try_from(*count)?,
+        channel,
+        count,
         start: MiniSlot(*start),
         ack: MiniSlot(*ack),
-        ranging: backoff(*rs, *re)?,
-        data: backoff(*ds, *de)?,
+        ranging,
+        data,
     };
     let mut bytes = [0xA5u8; 1000];
     let lent = bytes.get_mut(..*room as usize).ok_or(Bad)?;
-    let (elements, n) = triples::<Element, 241>(elements, NO_ELEMENT)?;
-    match writer::write(fields, elements.get(..n).ok_or(Bad)?, lent) {
+    let mut elements = [NO_ELEMENT; 241];
+    let elements = triples(given, &mut elements)?;
+    match writer::write(fields, elements, lent) {
         Ok(size) => write!(out, "wrote {size}")?,
         Err(why) => write!(out, "{}", Refused(why))?,
     }

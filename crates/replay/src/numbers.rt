@@ -14,11 +14,23 @@ pub fn at<'a, 'n, T>(
     Ok((place, rest))
 }
 
-pub fn backoff(start: u32, end: u32) -> Result<Backoff, Bad> {
+fn backoff(start: u32, end: u32) -> Result<Backoff, Bad> {
     Ok(Backoff {
         start: u8::try_from(start)?,
         end: u8::try_from(end)?,
     })
+}
+
+// What each MAP of a channel says: its number, the UCD count, and the ranging and the data backoff.
+pub fn of_channel(
+    [channel, count, rs, re, ds, de]: [u32; 6],
+) -> Result<(u8, u8, Backoff, Backoff), Bad> {
+    Ok((
+        u8::try_from(channel)?,
+        u8::try_from(count)?,
+        backoff(rs, re)?,
+        backoff(ds, de)?,
+    ))
 }
 
 // What three numbers of a line say: a trait of this program's own, as `From` would be for types of others.
@@ -42,18 +54,14 @@ impl Triple for Request {
     }
 }
 
-// The triples of some numbers, N at most, with `spare` behind them; and how many they are.
-pub fn triples<T: Triple, const N: usize>(
-    numbers: &[u32],
-    spare: T,
-) -> Result<([T; N], usize), Bad> {
-    let n = numbers.len() / 3;
-    if numbers.len() % 3 != 0 || N < n {
+// The triples of some numbers, put into the front of the room; behind them it stays as it was.
+pub fn triples<'a, T: Triple>(numbers: &[u32], room: &'a mut [T]) -> Result<&'a [T], Bad> {
+    if numbers.len() % 3 != 0 {
         return Err(Bad);
     }
-    let mut all = [spare; N];
-    for (place, three) in all.iter_mut().zip(numbers.chunks_exact(3)) {
-        *place = T::of(<[u32; 3]>::try_from(three)?);
+    let triples = room.get_mut(..numbers.len() / 3).ok_or(Bad)?;
+    for (triple, three) in triples.iter_mut().zip(numbers.chunks_exact(3)) {
+        *triple = T::of(<[u32; 3]>::try_from(three)?);
     }
-    Ok((all, n))
+    Ok(triples)
 }

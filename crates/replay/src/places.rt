@@ -1,7 +1,6 @@
 // The numbered places, which keep stations and headends from call to call.
 use crate::bad::Bad;
 use crate::line::Line;
-use crate::numbers::at;
 use crate::words::Word;
 use crate::{headends, messages, stations, tables};
 use headend::Headend;
@@ -23,48 +22,27 @@ impl Places {
         }
     }
 
+    // An arm a word, and each call takes what it needs: a table of functions would have one type for all.
     pub fn call(&mut self, line: Line, out: &mut Text) -> Result<(), Bad> {
-        match line.bytes {
-            Some(bytes) => self.call_with_bytes(line.word, line.numbers, bytes, out),
-            None => self.call_without(line.word, line.numbers, out),
-        }
-    }
-
-    // Those whose line a hex token ends. An arm a call: a table of functions would have one type for all.
-    fn call_with_bytes(
-        &mut self,
-        word: Word,
-        numbers: &[u32],
-        bytes: &[u8],
-        out: &mut Text,
-    ) -> Result<(), Bad> {
-        match word {
-            Word::Read => messages::read(numbers, bytes, out),
-            Word::After => messages::after(numbers, bytes, out),
-            Word::Grant => messages::grant(numbers, bytes, out),
-            Word::Table => tables::hear(&mut self.stations, numbers, bytes, out),
-            Word::Hear => {
-                let (station, numbers) = at(&mut self.stations, numbers)?;
-                stations::hear(station, numbers, bytes, out)
-            }
-            _ => Err(Bad),
-        }
-    }
-
-    fn call_without(&mut self, word: Word, numbers: &[u32], out: &mut Text) -> Result<(), Bad> {
-        match word {
-            Word::Write => messages::write(numbers, out),
-            Word::Begins => messages::begins(numbers, out),
-            Word::Earlier => messages::earlier(numbers, out),
-            Word::Span => messages::span(numbers, out),
-            Word::Station | Word::Record | Word::Show | Word::Offer => {
-                let (station, numbers) = at(&mut self.stations, numbers)?;
-                stations::call(station, word, numbers, out)
-            }
-            _ => {
-                let (headend, numbers) = at(&mut self.headends, numbers)?;
-                headends::call(headend, word, numbers, out)
-            }
+        match line.word {
+            Word::Read => messages::read(line.numbers, line.hex()?, out),
+            Word::After => messages::after(line.numbers, line.hex()?, out),
+            Word::Grant => messages::grant(line.numbers, line.hex()?, out),
+            Word::Write => messages::write(line.alone()?, out),
+            Word::Begins => messages::begins(line.alone()?, out),
+            Word::Earlier => messages::earlier(line.alone()?, out),
+            Word::Span => messages::span(line.alone()?, out),
+            Word::Station => stations::set_up(&mut self.stations, line.alone()?, out),
+            Word::Record => stations::record(&mut self.stations, line.alone()?, out),
+            Word::Show => stations::show(&mut self.stations, line.alone()?, out),
+            Word::Offer => stations::offer(&mut self.stations, line.alone()?, out),
+            Word::Hear => stations::hear(&mut self.stations, line.numbers, line.hex()?, out),
+            Word::Table => tables::hear(&mut self.stations, line.numbers, line.hex()?, out),
+            Word::Headend => headends::set_up(&mut self.headends, line.alone()?, out),
+            Word::Holding => headends::holding(&mut self.headends, line.alone()?, out),
+            Word::Held => headends::held(&mut self.headends, line.alone()?, out),
+            Word::Request => headends::request(&mut self.headends, line.alone()?, out),
+            Word::Issue => headends::issue(&mut self.headends, line.alone()?, out),
         }
     }
 }

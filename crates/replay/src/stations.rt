@@ -1,8 +1,8 @@
 // The calls on one station: each puts its answer into the text, and the station after it into its
 // place.
 use crate::bad::Bad;
+use crate::numbers::at;
 use crate::print::{OfStation, Refused};
-use crate::words::Word;
 use slots::MiniSlot;
 use station::{Phase, Station};
 use std::fmt::Write;
@@ -20,24 +20,15 @@ pub fn untouched() -> Station {
     }
 }
 
-// Those without a hex token.
-pub fn call(station: &mut Station, word: Word, numbers: &[u32], out: &mut Text) -> Result<(), Bad> {
-    match word {
-        Word::Station => set_up(station, numbers, out),
-        Word::Record => record(station, numbers, out),
-        Word::Show => show(station, numbers, out),
-        Word::Offer => offer(station, numbers, out),
-        _ => Err(Bad),
-    }
-}
-
-fn show(station: &Station, numbers: &[u32], out: &mut Text) -> Result<(), Bad> {
+pub fn show(stations: &mut [Station], numbers: &[u32], out: &mut Text) -> Result<(), Bad> {
+    let (station, numbers) = at(stations, numbers)?;
     let [] = <[u32; 0]>::try_from(numbers)?;
     write!(out, "station {}", OfStation(*station))?;
     Ok(())
 }
 
-fn set_up(station: &mut Station, numbers: &[u32], out: &mut Text) -> Result<(), Bad> {
+pub fn set_up(stations: &mut [Station], numbers: &[u32], out: &mut Text) -> Result<(), Bad> {
+    let (station, numbers) = at(stations, numbers)?;
     let [sid, channel, count, r] = <[u32; 4]>::try_from(numbers)?;
     match Station::new(sid, u8::try_from(channel)?, u8::try_from(count)?, r) {
         Ok(ready) => {
@@ -49,6 +40,8 @@ fn set_up(station: &mut Station, numbers: &[u32], out: &mut Text) -> Result<(), 
     Ok(())
 }
 
+// docs/REPLAY.md's numbers, here and in `phase`; firmware has its own for C, on which nothing else can
+// stand, and its states are range-checked before: here a bad one is `Bad`.
 fn remembered(known: u32, end: u32) -> Result<Option<MiniSlot>, Bad> {
     match known {
         0 => Ok(None),
@@ -79,7 +72,8 @@ fn phase([state, size, exponent, left, retries, time]: [u32; 6]) -> Result<Phase
     }
 }
 
-fn record(station: &mut Station, numbers: &[u32], out: &mut Text) -> Result<(), Bad> {
+pub fn record(stations: &mut [Station], numbers: &[u32], out: &mut Text) -> Result<(), Bad> {
+    let (station, numbers) = at(stations, numbers)?;
     let [sid, channel, count, r, known, end, parts @ ..] = numbers else {
         return Err(Bad);
     };
@@ -95,7 +89,8 @@ fn record(station: &mut Station, numbers: &[u32], out: &mut Text) -> Result<(), 
     Ok(())
 }
 
-fn offer(station: &mut Station, numbers: &[u32], out: &mut Text) -> Result<(), Bad> {
+pub fn offer(stations: &mut [Station], numbers: &[u32], out: &mut Text) -> Result<(), Bad> {
+    let (station, numbers) = at(stations, numbers)?;
     let [size] = <[u32; 1]>::try_from(numbers)?;
     let offering = station.offer(size);
     *station = offering.station;
@@ -108,11 +103,12 @@ fn offer(station: &mut Station, numbers: &[u32], out: &mut Text) -> Result<(), B
 }
 
 pub fn hear(
-    station: &mut Station,
+    stations: &mut [Station],
     numbers: &[u32],
     bytes: &[u8],
     out: &mut Text,
 ) -> Result<(), Bad> {
+    let (station, numbers) = at(stations, numbers)?;
     let [present, draw] = <[u32; 2]>::try_from(numbers)?;
     let hearing = hearing::hear(*station, bytes, MiniSlot(present), u16::try_from(draw)?);
     *station = hearing.station;

@@ -7,7 +7,8 @@ use station::Station;
 use std::fmt::Write;
 use stream::Text;
 
-// The draws given, into the front of the room.
+// The draws given, into the front of the room. Not by `triples`: a draw is one number, which may be out
+// of range. One function for both needs a width in its trait and a clause that it isn't 0: no plainer.
 fn draws_in<'a>(given: &[u32], room: &'a mut [u16; 40]) -> Result<&'a [u16], Bad> {
     let draws = room.get_mut(..given.len()).ok_or(Bad)?;
     for (draw, n) in draws.iter_mut().zip(given) {
