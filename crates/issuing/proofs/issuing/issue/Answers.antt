@@ -15,10 +15,10 @@ put_map-requires c =
     let b = bounded _ _ _ _ _ _ p.granted p.pending p.total _ _ _ c.call_fault.ensures c.in_default.is in
     (omega arith, (b.map, omega arith))
 
-pub returns-then-put_map : goal.returns-then-put_map
-returns-then-put_map c =
+pub returns-in-Err-put_map : goal.returns-in-Err-put_map
+returns-in-Err-put_map c =
     let p = rw c.held_requests.ensures.held at c.plan_within-plan.ensures in
-    issue_selfcheck _ _ _ _ _ _ c.call_fault.ensures c.in_default.is _ _ _ p.granted p.pending p.total _ _ c.put_map.ensures _ c.if-put_map.true c.refused-then-put_map.ensures
+    issue_selfcheck _ _ _ _ _ _ c.call_fault.ensures c.in_default.is _ _ _ p.granted p.pending p.total _ _ c.put_map.ensures _ _ c.in-Err-put_map.is c.refused-in-Err-put_map.ensures
 
 pub overflow_add-c : goal.overflow_add-c
 overflow_add-c c =
@@ -47,4 +47,4 @@ overflow_add-result c =
 pub returns : goal.returns
 returns c =
     let p = rw c.held_requests.ensures.held at c.plan_within-plan.ensures in
-    issue_done _ _ _ _ _ _ c.call_fault.ensures c.in_default.is _ _ _ p.granted p.pending p.total _ _ c.put_map.ensures _ c.if-put_map.false c.moved_to.ensures
+    issue_done _ _ _ _ _ _ c.call_fault.ensures c.in_default.is _ _ _ p.granted p.pending p.total _ _ c.put_map.ensures _ c.in_default-put_map.is c.moved_to.ensures
