@@ -1,6 +1,6 @@
 -- The ways through issuing: one law each, about the definitions only.
 use mathlib.Core.Path.{◌≡◌, refl, sym, ◌∙◌, ap}
-use mathlib.Core.Bool.{Bool, true, false, ◌||◌}
+use mathlib.Core.Bool.{Bool, true, false, cond, ◌||◌}
 use mathlib.Core.List.{List, ◌++◌}
 use Prim.Native.Nat.{ℕ, zero, suc, ◌+◌, ◌-◌, ◌*◌, ◌≤◌, ◌<◌}
 use native.Mathlib.Omega.{arith}
@@ -14,7 +14,7 @@ use Rattle.slots.specs.Time.{moved_on}
 use Rattle.rules.specs.declared.element.Element.{Element}
 use Rattle.rules.specs.declared.fields.Fields.{Fields}
 use Rattle.message.specs.Reading.{read_of}
-use Rattle.writer.specs.Writing.{message_of, laid_out}
+use Rattle.writer.specs.Writing.{message_of, onto, laid_out}
 use Rattle.writer.proofs.Stores.{length_message}
 use Rattle.message.proofs.Ways.{passed, or_none, said, said_not}
 use Rattle.headend.specs.declared.record.Headend.{Headend}
@@ -30,10 +30,10 @@ use Rattle.message.specs.declared.reading.Reading.{Reading}
 use Rattle.rules.specs.declared.refusal.Refusal.{Refusal}
 use Rattle.rules.specs.declared.refusal.Reason.{Reason}
 use Rattle.rules.specs.declared.refusal.Reason.TheVariants.{Room, Ack, Plan, Selfcheck}
-use Rattle.rules.specs.Refusals.{refusal, then}
+use Rattle.rules.specs.Refusals.{refusal, changed}
 use Rattle.issuing.specs.Plan.{total}
 use Rattle.issuing.specs.Issue.{granted_in, pending_in, plan_of, plan_message, bad_ack, bad_plan, refuses, call_fault, issue_fault, places_of, moved_to, issued_from, issue_of, issue_into}
-use Rattle.issuing.specs.Scan.{message_by, accepted_into}
+use Rattle.issuing.specs.Scan.{message_by, selfchecked, accepted_into}
 use Rattle.issuing.proofs.Held.{total_granted, length_granted}
 use Rattle.issuing.proofs.Planned.{plan_length}
 
@@ -167,16 +167,22 @@ module _ (h : Headend) (ack c budget : ℕ) (old : List ℕ) (k : Result Unit Re
   issue_refused why r f e = (rw (sym is ∙ f) e, rw (sym is ∙ f) refl)
 
   module _ (good : k ≡ Ok tt) (gs ps : List Request) (t : ℕ) (granted' : gs ≡ granted_in h c budget) (pending' : ps ≡ pending_in h c budget) (total' : t ≡ total (granted_in h c budget))
-      (b : Bool) (new : List ℕ) (put : (b ≡ refuses (read_of (message_by h ack c gs ps))) × (new ≡ accepted_into (message_by h ack c gs ps) old)) where
-    put' : (b ≡ refuses (read_of (plan_message h ack c budget))) × (new ≡ accepted_into (plan_message h ack c budget) old)
+      (v : Result Unit Reason) (new : List ℕ) (put : (v ≡ selfchecked (message_by h ack c gs ps)) × (new ≡ accepted_into (message_by h ack c gs ps) old)) where
+    put' : (v ≡ selfchecked (plan_message h ack c budget)) × (new ≡ accepted_into (plan_message h ack c budget) old)
     put' = rw (plan_by_lem h c budget gs ps t granted' pending' total' ack) at put
 
-    pub issue_selfcheck : (r : Issuing) → b ≡ true → r ≡ record { headend = h; answer = Err (refusal Selfcheck 0) } → (r ≡ issue_of h ack c budget (length old)) × (new ≡ issue_into h ack c budget old)
-    unfolding issue_of issue_into issue_fault
-    issue_selfcheck r e f = let it = sym put'.0 ∙ e in (rw (sym is ∙ good, it) f, rw (sym is ∙ good, it) (rw it at put'.1))
+    held_then : new ≡ issue_into h ack c budget old
+    unfolding issue_into issue_fault
+    held_then = rw (sym is ∙ good) (put'.1 ∙ go (refuses (read_of (plan_message h ack c budget))))
+      where
+        go : (b : Bool) → cond b old (onto (plan_message h ack c budget) old) ≡ changed (cond b (Err Selfcheck) (Ok tt)) (onto (plan_message h ack c budget) old) old
+        go true = refl
+        go false = refl
 
-    pub issue_done : (after : Headend) → b ≡ false → after ≡ moved_to h ack (c + t) ps → (record { headend = after; answer = Ok (24 + 4 * h.held) } ≡ issue_of h ack c budget (length old)) × (new ≡ issue_into h ack c budget old)
-    unfolding issue_of issue_into issue_fault
-    issue_done after e f =
-        let it = sym put'.0 ∙ e in
-        (rw (sym is ∙ good, it, ← issued_by_lem h c budget gs ps t granted' pending' total' ack, ← f) refl, rw (sym is ∙ good, it) (rw it at put'.1))
+    pub issue_selfcheck : (why : Reason) (r : Issuing) → v ≡ Err why → r ≡ record { headend = h; answer = Err (refusal why 0) } → (r ≡ issue_of h ack c budget (length old)) × (new ≡ issue_into h ack c budget old)
+    unfolding issue_of issue_fault
+    issue_selfcheck why r e f = (rw (sym is ∙ good, sym put'.0 ∙ e) f, held_then)
+
+    pub issue_done : (after : Headend) → v ≡ Ok tt → after ≡ moved_to h ack (c + t) ps → (record { headend = after; answer = Ok (24 + 4 * h.held) } ≡ issue_of h ack c budget (length old)) × (new ≡ issue_into h ack c budget old)
+    unfolding issue_of issue_fault
+    issue_done after e f = (rw (sym is ∙ good, sym put'.0 ∙ e, ← issued_by_lem h c budget gs ps t granted' pending' total' ack, ← f) refl, held_then)

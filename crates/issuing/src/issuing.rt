@@ -4,7 +4,7 @@ ghost use Rattle.rules.specs.Refusals.{refusal};
 ghost use Rattle.message.specs.Reading.{read_of};
 ghost use Rattle.issuing.specs.Plan.{total};
 ghost use Rattle.issuing.specs.Issue.{bad_ack, bad_plan, refuses, call_fault, places_of, moved_to, issue_of, issue_into};
-ghost use Rattle.issuing.specs.Scan.{message_by, accepted_into};
+ghost use Rattle.issuing.specs.Scan.{message_by, selfchecked, accepted_into};
 
 use crate::plan::{Plan, elements_of, fields_of, plan_within};
 use headend::{Headend, Request, record_fault, with_places};
@@ -87,22 +87,22 @@ fn refused(h: Headend, reason: Reason) -> Issuing
     }
 }
 
-// 24: whether the reader refuses the headend's own MAP; yes or no, as there is one reason, which `issue` names. The lent bytes hold it only where it does not.
-fn selfcheck(own: &[u8], out: &mut [u8]) -> bool
+// 24: the headend's own MAP may be one that the reader refuses. The lent bytes hold it only where it is not.
+fn selfcheck(own: &[u8], out: &mut [u8]) -> Result<(), Reason>
     requires { length own.now ≤ length out.old }
-    ensures { (result ≡ refuses (read_of own.now)) × (out.new ≡ accepted_into own.now out.old) }
+    ensures { (result ≡ selfchecked own.now) × (out.new ≡ accepted_into own.now out.old) }
 {
     if refuses(own) {
-        return true;
+        return Err(Reason::Selfcheck);
     }
     out[..own.len()].copy_from_slice(own);
-    false
+    Ok(())
 }
 
 // The MAP made in an array of the headend's own, and checked there before a lent byte is touched.
-fn put_map(h: Headend, ack: MiniSlot, c: u32, plan: Plan, out: &mut [u8]) -> bool
+fn put_map(h: Headend, ack: MiniSlot, c: u32, plan: Plan, out: &mut [u8]) -> Result<(), Reason>
     requires { (length plan.granted.now + length plan.pending.now ≤ 64) × ((c + total plan.granted.now ≤ 4096) × (24 + 4 * (length plan.granted.now + length plan.pending.now) ≤ length out.old)) }
-    ensures { (result ≡ refuses (read_of (message_by h ack.0 c plan.entry.granted.now plan.entry.pending.now))) × (out.new ≡ accepted_into (message_by h ack.0 c plan.entry.granted.now plan.entry.pending.now) out.old) }
+    ensures { (result ≡ selfchecked (message_by h ack.0 c plan.entry.granted.now plan.entry.pending.now)) × (out.new ≡ accepted_into (message_by h ack.0 c plan.entry.granted.now plan.entry.pending.now) out.old) }
 {
     let elements = elements_of(plan, h.short, c);
     let n = plan.granted.len() + plan.pending.len() + 2;
@@ -118,8 +118,8 @@ pub fn issue(headend: Headend, ack: MiniSlot, c: u32, budget: u32, out: &mut [u8
         return refused(headend, reason);
     }
     let plan = plan_within(headend.held_requests(), budget - c);
-    if put_map(headend, ack, c, plan, out) {
-        return refused(headend, Reason::Selfcheck);
+    if let Err(reason) = put_map(headend, ack, c, plan, out) {
+        return refused(headend, reason);
     }
     Issuing {
         headend: moved_to(headend, ack, c + plan.total, plan.pending),
