@@ -83,7 +83,7 @@ fn put_grants(granted: &[Request], short: u32, from: u32, out: &mut [Element]) -
 }
 
 // The pendings, all at the map length.
-// Tried: `out.iter_mut().zip(pending)`. The proof didn't close: an invariant has no name for `out` there.
+// Tried: `out.iter_mut().zip(pending)`, here and in `put_grants`: the search left it open, and no invariant was found.
 fn put_pendings(pending: &[Request], offset: u32, out: &mut [Element])
     requires { length pending.now ≤ length out.old }
     ensures { out.new ≡ pendings offset pending.now ++ drop (length pending.now) out.old }

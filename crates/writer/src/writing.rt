@@ -54,7 +54,7 @@ fn header_of(fields: Fields, n: usize) -> [u8; 16]
 }
 
 // The elements after the header's 16 bytes.
-// Tried: `chunks_exact_mut(4).zip(elements)`. The proof didn't close: an invariant has no name for `out` there.
+// Tried: `chunks_exact_mut(4).zip(elements)`: the search left it open, and no invariant was found.
 fn put_elements(elements: &[Element], out: &mut [u8])
     requires { 16 + 4 * length elements.now ≤ length out.old }
     ensures { out.new ≡ take 16 out.old ++ (elements_of elements.now ++ drop (16 + 4 * length elements.now) out.old) }
