@@ -81,6 +81,7 @@ struct Run<'a> {
 }
 
 impl<'a> Run<'a> {
+    // Three numbers, as the paper's call takes them: each line of the run below says them so.
     fn request(self, sid: u32, size: u32, first: u32) -> Result<Run<'a>, Failed> {
         let Run { rt, headend } = self;
         let taking = headend.request(sid, size, MiniSlot(first));
