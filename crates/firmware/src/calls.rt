@@ -1,4 +1,4 @@
-// The exported functions. Each gives 0, or a refusal and leaves what it was lent as it came.
+// The exported functions. C has no Result: each gives 0, or a refusal's number and leaves what it was lent as it came.
 ghost use Rattle.std.specs.Prelude.{◌≡◌};
 ghost use Rattle.message.specs.Reading.{read_of};
 ghost use Rattle.message.specs.Grants.{grant_of};

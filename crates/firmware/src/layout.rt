@@ -41,6 +41,7 @@ pub(crate) fn time_in(time: Option<MiniSlot>) -> u32
     time.map_or(0, |time| time.0)
 }
 
+// .. out of C's record; replay's lines, where a bad number is `Bad`, have a `remembered` of their own.
 fn remembered(known: u32, end: u32) -> Option<MiniSlot>
     ensures { result ≡ remembered known end }
 {
