@@ -41,10 +41,27 @@ fn element_of(word: u32) -> Element
     }
 }
 
-// Four bytes, most significant first.
+// Four bytes, most significant first, taken straight from the lent bytes: no array on the way (docs/requests/R-3.md),
+// which `from_be_bytes` would ask for. They are put together the other way round and then turned: the compiler makes one
+// load of the one and one instruction of the other, and neither of the sum that they come to.
 pub(crate) fn word_at(bytes: &[u8], at: usize) -> u32
     requires { at + 4 ≤ length bytes.now }
     ensures { result ≡ word_at bytes.now at }
 {
-    u32::from_be_bytes([bytes[at], bytes[at + 1], bytes[at + 2], bytes[at + 3]])
+    turned(least_first(bytes[at], bytes[at + 1], bytes[at + 2], bytes[at + 3]))
+}
+
+fn least_first(first: u8, second: u8, third: u8, fourth: u8) -> u32
+    ensures { (result % 256 ≡ first) × ((result / 256 % 256 ≡ second) × ((result / 65536 % 256 ≡ third) × (result / 16777216 ≡ fourth))) }
+{
+    u32::from(first)
+        + u32::from(second) * 256
+        + u32::from(third) * 65536
+        + u32::from(fourth) * 16777216
+}
+
+fn turned(word: u32) -> u32
+    ensures { result ≡ word % 256 * 16777216 + word / 256 % 256 * 65536 + word / 65536 % 256 * 256 + word / 16777216 }
+{
+    word % 256 * 16777216 + word / 256 % 256 * 65536 + word / 65536 % 256 * 256 + word / 16777216
 }
