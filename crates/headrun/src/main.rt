@@ -7,51 +7,62 @@ ghost use Rattle.std.specs.Prelude.{◌≤◌};
 use headend::Headend;
 use rules::{Backoff, Refusal};
 use slots::MiniSlot;
-use std::fmt;
-use std::fmt::{Display, Write};
 use stream::{Failed, Text};
 
 // The longest line is that of 28 bytes, 84 with its end.
 const LONGEST_LINE: usize = 256;
 
-fn tell<D: Display + Drop>(rt: &HostRuntime, line: D) -> Result<(), Failed> {
-    let mut room = [0u8; LONGEST_LINE];
-    let mut out = Text::new(&mut room);
-    // Never fails: a text takes all that is written, and says itself that it had no room.
-    let _ = writeln!(out, "{line}");
+// What is asked or answered: a word, and its numbers. Numbers and bytes are put by `put_decimal` and `put_hex` of
+// stream, which promise their digits: with `Display` and `write!` in their place nothing that runs would go by these.
+#[derive(Clone, Copy)]
+struct Said<'a>(&'a [u8], &'a [u32]);
+
+impl Said<'_> {
+    fn put(self, out: &mut Text) {
+        let Said(word, numbers) = self;
+        out.put(word);
+        for n in numbers {
+            out.put(b" ");
+            out.put_decimal(u64::from(*n));
+        }
+    }
+}
+
+fn end_line(rt: &HostRuntime, out: &mut Text) -> Result<(), Failed> {
+    out.put(b"\n");
+    let used = out.used;
     stream::tell_line(
         &mut rt.stdout(),
         &mut rt.stderr(),
         b"headrun: standard output",
-        &out,
+        out.bytes,
+        used,
     )
 }
 
-// Two digits for each byte, with single spaces between.
-#[derive(Drop)]
-struct Bytes<'a>(&'a [u8]);
-
-impl Display for Bytes<'_> {
-    fn fmt<W: fmt::Write>(&self, f: &mut fmt::Formatter<W>) -> fmt::Result {
-        let Some((first, others)) = self.0.split_first() else {
-            return Ok(());
-        };
-        write!(f, "{first:02x}")?;
-        for byte in others {
-            write!(f, " {byte:02x}")?;
-        }
-        Ok(())
-    }
+fn tell(rt: &HostRuntime, asked: Said, answered: Said) -> Result<(), Failed> {
+    let mut room = [0u8; LONGEST_LINE];
+    let mut out = Text::new(&mut room);
+    asked.put(&mut out);
+    answered.put(&mut out);
+    end_line(rt, &mut out)
 }
 
-// A refusal's number.
-#[derive(Drop)]
-struct Refused(Refusal);
+fn tell_refused(rt: &HostRuntime, asked: Said, why: Refusal) -> Result<(), Failed> {
+    tell(rt, asked, Said(b" refused", &[why.reason.number()]))
+}
 
-impl Display for Refused {
-    fn fmt<W: fmt::Write>(&self, f: &mut fmt::Formatter<W>) -> fmt::Result {
-        write!(f, "refused {}", self.0.reason.number())
+// Two digits for each byte, with single spaces between.
+fn tell_hex(rt: &HostRuntime, bytes: &[u8]) -> Result<(), Failed> {
+    let mut room = [0u8; LONGEST_LINE];
+    let mut out = Text::new(&mut room);
+    for (i, byte) in bytes.iter().enumerate() {
+        if i != 0 {
+            out.put(b" ");
+        }
+        out.put_hex(*byte);
     }
+    end_line(rt, &mut out)
 }
 
 // None where the set-up is refused.
@@ -61,13 +72,15 @@ fn set_up(rt: &HostRuntime, next: u32, most: u8) -> Result<Option<Run<'_>>, Fail
         start: 2,
         end: most,
     };
+    let numbers = [next];
+    let asked = Said(b"set up", &numbers);
     match Headend::new(MiniSlot(next), 1, 2, ranging, data, 16) {
         Ok(headend) => {
-            tell(rt, format_args!("set up {next} taken"))?;
+            tell(rt, asked, Said(b" taken", &[]))?;
             Ok(Some(Run { rt, headend }))
         }
         Err(why) => {
-            tell(rt, format_args!("set up {next} {}", Refused(why)))?;
+            tell_refused(rt, asked, why)?;
             Ok(None)
         }
     }
@@ -85,12 +98,11 @@ impl<'a> Run<'a> {
     fn request(self, sid: u32, size: u32, first: u32) -> Result<Run<'a>, Failed> {
         let Run { rt, headend } = self;
         let taking = headend.request(sid, size, MiniSlot(first));
+        let numbers = [sid, size, first];
+        let asked = Said(b"request", &numbers);
         match taking.answer {
-            Ok(()) => tell(rt, format_args!("request {sid} {size} {first} taken"))?,
-            Err(why) => tell(
-                rt,
-                format_args!("request {sid} {size} {first} {}", Refused(why)),
-            )?,
+            Ok(()) => tell(rt, asked, Said(b" taken", &[]))?,
+            Err(why) => tell_refused(rt, asked, why)?,
         }
         Ok(Run {
             rt,
@@ -102,12 +114,11 @@ impl<'a> Run<'a> {
     fn issue(self, ack: u32, c: u32, budget: u32, room: &mut [u8]) -> Result<Run<'a>, Failed> {
         let Run { rt, headend } = self;
         let issuing = issuing::issue(headend, MiniSlot(ack), c, budget, room);
+        let numbers = [ack, c, budget];
+        let asked = Said(b"issue", &numbers);
         match issuing.answer {
-            Ok(size) => tell(rt, format_args!("issue {ack} {c} {budget} size {size}"))?,
-            Err(why) => tell(
-                rt,
-                format_args!("issue {ack} {c} {budget} {}", Refused(why)),
-            )?,
+            Ok(size) => tell(rt, asked, Said(b" size", &[size]))?,
+            Err(why) => tell_refused(rt, asked, why)?,
         }
         Ok(Run {
             rt,
@@ -121,7 +132,7 @@ impl<'a> Run<'a> {
     {
         let mut room = [0xAAu8; ROOM];
         let after = self.issue(ack, c, budget, &mut room)?;
-        tell(after.rt, Bytes(&room))?;
+        tell_hex(after.rt, &room)?;
         Ok(after)
     }
 

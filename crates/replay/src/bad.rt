@@ -1,6 +1,5 @@
 // What is wrong with a line that is no call, of which nothing more is said.
 use std::array::TryFromSliceError;
-use std::fmt;
 use std::num::TryFromIntError;
 
 #[derive(Clone, Copy, Debug)]
@@ -16,13 +15,6 @@ impl From<TryFromIntError> for Bad {
 // Too many numbers, or too few.
 impl From<TryFromSliceError> for Bad {
     fn from(_: TryFromSliceError) -> Bad {
-        Bad
-    }
-}
-
-// Never: a text takes all that is written, and says itself that it had no room.
-impl From<fmt::Error> for Bad {
-    fn from(_: fmt::Error) -> Bad {
         Bad
     }
 }

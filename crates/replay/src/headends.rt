@@ -2,11 +2,10 @@
 // place.
 use crate::bad::Bad;
 use crate::numbers::{at, of_channel, triples};
-use crate::print::{Hex, OfHeadend, Refused};
+use crate::print::{Hex, Numbers, OfHeadend, Part, Refused};
 use headend::{Headend, Request};
 use rules::Backoff;
 use slots::MiniSlot;
-use std::fmt::Write;
 use stream::Text;
 
 // A headend that no set-up has touched: all zeros.
@@ -30,6 +29,11 @@ fn whole(headend: &Headend) -> OfHeadend {
     OfHeadend(*headend, headend.held as usize)
 }
 
+fn shown(headend: OfHeadend, out: &mut Text) {
+    out.put(b"headend");
+    headend.put(out);
+}
+
 pub fn set_up(headends: &mut [Headend], numbers: &[u32], out: &mut Text) -> Result<(), Bad> {
     let (headend, numbers) = at(headends, numbers)?;
     let [next, channel, count, rs, re, ds, de, short] = <[u32; 8]>::try_from(numbers)?;
@@ -37,9 +41,9 @@ pub fn set_up(headends: &mut [Headend], numbers: &[u32], out: &mut Text) -> Resu
     match Headend::new(MiniSlot(next), channel, count, ranging, data, short) {
         Ok(made) => {
             *headend = made;
-            write!(out, "headend {}", whole(headend))?;
+            shown(whole(headend), out);
         }
-        Err(why) => write!(out, "{}", Refused(why))?,
+        Err(why) => Refused(why).put(out),
     }
     Ok(())
 }
@@ -77,7 +81,7 @@ pub fn holding(headends: &mut [Headend], numbers: &[u32], out: &mut Text) -> Res
         held: *held,
         requests,
     };
-    write!(out, "headend {}", whole(headend))?;
+    shown(whole(headend), out);
     Ok(())
 }
 
@@ -85,10 +89,8 @@ pub fn holding(headends: &mut [Headend], numbers: &[u32], out: &mut Text) -> Res
 pub fn held(headends: &mut [Headend], numbers: &[u32], out: &mut Text) -> Result<(), Bad> {
     let (headend, numbers) = at(headends, numbers)?;
     match numbers {
-        [] => write!(out, "headend {}", whole(headend))?,
-        [places] if *places <= 64 => {
-            write!(out, "headend {}", OfHeadend(*headend, *places as usize))?
-        }
+        [] => shown(whole(headend), out),
+        [places] if *places <= 64 => shown(OfHeadend(*headend, *places as usize), out),
         _ => return Err(Bad),
     }
     Ok(())
@@ -101,9 +103,9 @@ pub fn request(headends: &mut [Headend], numbers: &[u32], out: &mut Text) -> Res
     *headend = taking.headend;
     match taking.answer {
         Ok(()) => out.put(b"taken"),
-        Err(why) => write!(out, "{}", Refused(why))?,
+        Err(why) => Refused(why).put(out),
     }
-    write!(out, " {}", whole(headend))?;
+    whole(headend).put(out);
     Ok(())
 }
 
@@ -116,9 +118,14 @@ pub fn issue(headends: &mut [Headend], numbers: &[u32], out: &mut Text) -> Resul
     let issuing = issuing::issue(*headend, MiniSlot(ack), c, budget, lent);
     *headend = issuing.headend;
     match issuing.answer {
-        Ok(size) => write!(out, "issued {size}")?,
-        Err(why) => write!(out, "{}", Refused(why))?,
+        Ok(size) => {
+            out.put(b"issued");
+            Numbers(&[size]).put(out);
+        }
+        Err(why) => Refused(why).put(out),
     }
-    write!(out, " {} {}", Hex(lent), whole(headend))?;
+    out.put(b" ");
+    Hex(lent).put(out);
+    whole(headend).put(out);
     Ok(())
 }

@@ -43,11 +43,13 @@ fn replied(rt: &HostRuntime, places: &mut Places, line: &[u8]) -> Result<(), Fai
         out.put(b"bad");
     }
     out.put(b"\n");
+    let used = out.used;
     stream::tell_line(
         &mut rt.stdout(),
         &mut rt.stderr(),
         b"replay: standard output",
-        &out,
+        out.bytes,
+        used,
     )
 }
 

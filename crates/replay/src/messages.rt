@@ -1,43 +1,46 @@
 // The calls on messages and on times: each puts its answer into the text.
 use crate::bad::Bad;
 use crate::numbers::{of_channel, triples};
-use crate::print::{Ends, Hex, Refused};
+use crate::print::{Ends, Hex, Numbers, Part, Refused};
 use message::Reading;
 use rules::{Element, Fields, Reason, Refusal};
 use slots::{MiniSlot, Span};
-use std::fmt;
-use std::fmt::Write;
 use stream::Text;
 
 pub fn read(numbers: &[u32], bytes: &[u8], out: &mut Text) -> Result<(), Bad> {
     let [] = <[u32; 0]>::try_from(numbers)?;
     match message::read(bytes) {
-        Ok(reading) => map(reading, out)?,
-        Err(why) => write!(out, "{}", Refused(why))?,
+        Ok(reading) => map(reading, out),
+        Err(why) => Refused(why).put(out),
     }
     Ok(())
 }
 
-fn map(reading: Reading, out: &mut Text) -> fmt::Result {
+fn map(reading: Reading, out: &mut Text) {
     let fields = reading.fields;
-    write!(out, "map {} {} ", fields.channel, fields.count)?;
-    write!(out, "{} {} {} ", reading.n, fields.start.0, fields.ack.0)?;
-    write!(out, "{} {} ", Ends(fields.ranging), Ends(fields.data))?;
-    write!(out, "{} {}", reading.null, reading.length)
+    out.put(b"map");
+    Numbers(&[u32::from(fields.channel), u32::from(fields.count)]).put(out);
+    Numbers(&[reading.n, fields.start.0, fields.ack.0]).put(out);
+    Ends(fields.ranging).put(out);
+    Ends(fields.data).put(out);
+    Numbers(&[reading.null, reading.length]).put(out);
 }
 
 pub fn after(numbers: &[u32], bytes: &[u8], out: &mut Text) -> Result<(), Bad> {
     let [] = <[u32; 0]>::try_from(numbers)?;
-    write!(out, "{}", Hex(message::after_null(bytes)))?;
+    Hex(message::after_null(bytes)).put(out);
     Ok(())
 }
 
 pub fn grant(numbers: &[u32], bytes: &[u8], out: &mut Text) -> Result<(), Bad> {
     let [sid, k] = <[u32; 2]>::try_from(numbers)?;
     match message::grant(bytes, sid, k) {
-        Ok(Some(granted)) => write!(out, "grant {} {}", granted.first.0, granted.length)?,
+        Ok(Some(granted)) => {
+            out.put(b"grant");
+            Numbers(&[granted.first.0, granted.length]).put(out);
+        }
         Ok(None) => out.put(b"none"),
-        Err(why) => write!(out, "{}", Refused(why))?,
+        Err(why) => Refused(why).put(out),
     }
     Ok(())
 }
@@ -67,18 +70,25 @@ pub fn write(numbers: &[u32], out: &mut Text) -> Result<(), Bad> {
     let mut elements = [NO_ELEMENT; 241];
     let elements = triples(given, &mut elements)?;
     match writer::write(fields, elements, lent) {
-        Ok(size) => write!(out, "wrote {size}")?,
-        Err(why) => write!(out, "{}", Refused(why))?,
+        Ok(size) => {
+            out.put(b"wrote");
+            Numbers(&[size]).put(out);
+        }
+        Err(why) => Refused(why).put(out),
     }
-    write!(out, " {}", Hex(lent))?;
+    out.put(b" ");
+    Hex(lent).put(out);
     Ok(())
 }
 
 pub fn begins(numbers: &[u32], out: &mut Text) -> Result<(), Bad> {
     let [slot, m] = <[u32; 2]>::try_from(numbers)?;
     match MiniSlot(slot).begins(m) {
-        Some(time) => write!(out, "begins {}", time.0)?,
-        None => write!(out, "{}", Refused(Refusal::from(Reason::Size)))?,
+        Some(time) => {
+            out.put(b"begins");
+            Numbers(&[time.0]).put(out);
+        }
+        None => Refused(Refusal::from(Reason::Size)).put(out),
     }
     Ok(())
 }
@@ -107,9 +117,12 @@ pub fn span(numbers: &[u32], out: &mut Text) -> Result<(), Bad> {
         }
     }
     match span {
-        Span::Over { earliest, latest } => write!(out, "span {} {}", earliest.0, latest.0)?,
+        Span::Over { earliest, latest } => {
+            out.put(b"span");
+            Numbers(&[earliest.0, latest.0]).put(out);
+        }
         Span::Nothing | Span::Lost => out.put(b"span none"),
     }
-    write!(out, " {left}")?;
+    Numbers(&[left]).put(out);
     Ok(())
 }

@@ -1,19 +1,25 @@
-// The parts of answers.
+// The parts of answers. Numbers and bytes are put by `put_decimal` and `put_hex` of stream, which promise their
+// digits: with `Display` and `write!` in their place nothing that runs would go by these.
 use headend::Headend;
 use rules::{Backoff, Reason, Refusal};
 use slots::MiniSlot;
 use station::{Phase, Station};
-use std::fmt;
-use std::fmt::Display;
+use stream::Text;
+
+// What can be put into an answer.
+pub trait Part {
+    fn put(&self, out: &mut Text);
+}
 
 // What begins the answer of a call that is refused.
 #[derive(Drop)]
 pub struct Refused(pub Refusal);
 
-impl Display for Refused {
-    fn fmt<W: fmt::Write>(&self, f: &mut fmt::Formatter<W>) -> fmt::Result {
+impl Part for Refused {
+    fn put(&self, out: &mut Text) {
         let Refusal { reason, element } = self.0;
-        write!(f, "refused {} {element}", reason.number())
+        out.put(b"refused");
+        Numbers(&[reason.number(), element]).put(out);
     }
 }
 
@@ -21,11 +27,11 @@ impl Display for Refused {
 #[derive(Drop)]
 pub struct Code(pub Result<(), Reason>);
 
-impl Display for Code {
-    fn fmt<W: fmt::Write>(&self, f: &mut fmt::Formatter<W>) -> fmt::Result {
+impl Part for Code {
+    fn put(&self, out: &mut Text) {
         match self.0 {
-            Ok(()) => f.write_str("0"),
-            Err(reason) => write!(f, "{}", reason.number()),
+            Ok(()) => Numbers(&[0]).put(out),
+            Err(reason) => Numbers(&[reason.number()]).put(out),
         }
     }
 }
@@ -34,13 +40,12 @@ impl Display for Code {
 #[derive(Drop)]
 pub struct Hex<'a>(pub &'a [u8]);
 
-impl Display for Hex<'_> {
-    fn fmt<W: fmt::Write>(&self, f: &mut fmt::Formatter<W>) -> fmt::Result {
-        f.write_str("x")?;
+impl Part for Hex<'_> {
+    fn put(&self, out: &mut Text) {
+        out.put(b"x");
         for byte in self.0 {
-            write!(f, "{byte:02x}")?;
+            out.put_hex(*byte);
         }
-        Ok(())
     }
 }
 
@@ -48,12 +53,12 @@ impl Display for Hex<'_> {
 #[derive(Drop)]
 pub struct Numbers<'a>(pub &'a [u32]);
 
-impl Display for Numbers<'_> {
-    fn fmt<W: fmt::Write>(&self, f: &mut fmt::Formatter<W>) -> fmt::Result {
+impl Part for Numbers<'_> {
+    fn put(&self, out: &mut Text) {
         for n in self.0 {
-            write!(f, " {n}")?;
+            out.put(b" ");
+            out.put_decimal(u64::from(*n));
         }
-        Ok(())
     }
 }
 
@@ -61,10 +66,10 @@ impl Display for Numbers<'_> {
 #[derive(Drop)]
 pub struct Ends(pub Backoff);
 
-impl Display for Ends {
-    fn fmt<W: fmt::Write>(&self, f: &mut fmt::Formatter<W>) -> fmt::Result {
+impl Part for Ends {
+    fn put(&self, out: &mut Text) {
         let Backoff { start, end } = self.0;
-        write!(f, "{start} {end}")
+        Numbers(&[u32::from(start), u32::from(end)]).put(out);
     }
 }
 
@@ -72,11 +77,11 @@ impl Display for Ends {
 #[derive(Drop)]
 struct Known(Option<MiniSlot>);
 
-impl Display for Known {
-    fn fmt<W: fmt::Write>(&self, f: &mut fmt::Formatter<W>) -> fmt::Result {
+impl Part for Known {
+    fn put(&self, out: &mut Text) {
         match self.0 {
-            None => f.write_str("0 0"),
-            Some(end) => write!(f, "1 {}", end.0),
+            None => Numbers(&[0, 0]).put(out),
+            Some(end) => Numbers(&[1, end.0]).put(out),
         }
     }
 }
@@ -85,24 +90,25 @@ impl Display for Known {
 #[derive(Drop)]
 struct Fields(Phase);
 
-impl Display for Fields {
-    fn fmt<W: fmt::Write>(&self, f: &mut fmt::Formatter<W>) -> fmt::Result {
-        match self.0 {
-            Phase::Idle => f.write_str("0 0 0 0 0 0"),
-            Phase::Wanting { size } => write!(f, "1 {size} 0 0 0 0"),
+impl Part for Fields {
+    fn put(&self, out: &mut Text) {
+        let numbers = match self.0 {
+            Phase::Idle => [0, 0, 0, 0, 0, 0],
+            Phase::Wanting { size } => [1, size, 0, 0, 0, 0],
             Phase::Deferring {
                 exponent,
                 left,
                 retries,
                 size,
-            } => write!(f, "2 {size} {exponent} {left} {retries} 0"),
+            } => [2, size, exponent, left, retries, 0],
             Phase::Waiting {
                 exponent,
                 retries,
                 time,
                 size,
-            } => write!(f, "3 {size} {exponent} 0 {retries} {}", time.0),
-        }
+            } => [3, size, exponent, 0, retries, time.0],
+        };
+        Numbers(&numbers).put(out);
     }
 }
 
@@ -110,11 +116,12 @@ impl Display for Fields {
 #[derive(Drop)]
 pub struct OfStation(pub Station);
 
-impl Display for OfStation {
-    fn fmt<W: fmt::Write>(&self, f: &mut fmt::Formatter<W>) -> fmt::Result {
+impl Part for OfStation {
+    fn put(&self, out: &mut Text) {
         let st = self.0;
-        write!(f, "{} {} {} {} ", st.sid, st.channel, st.count, st.r)?;
-        write!(f, "{} {}", Known(st.end), Fields(st.phase))
+        Numbers(&[st.sid, u32::from(st.channel), u32::from(st.count), st.r]).put(out);
+        Known(st.end).put(out);
+        Fields(st.phase).put(out);
     }
 }
 
@@ -122,15 +129,15 @@ impl Display for OfStation {
 #[derive(Drop)]
 pub struct OfHeadend(pub Headend, pub usize);
 
-impl Display for OfHeadend {
-    fn fmt<W: fmt::Write>(&self, f: &mut fmt::Formatter<W>) -> fmt::Result {
+impl Part for OfHeadend {
+    fn put(&self, out: &mut Text) {
         let h = self.0;
-        write!(f, "{} {} {} {} ", h.next.0, h.ack.0, h.channel, h.count)?;
-        write!(f, "{} {} ", Ends(h.ranging), Ends(h.data))?;
-        write!(f, "{} {}", h.short, h.held)?;
+        Numbers(&[h.next.0, h.ack.0, u32::from(h.channel), u32::from(h.count)]).put(out);
+        Ends(h.ranging).put(out);
+        Ends(h.data).put(out);
+        Numbers(&[h.short, h.held]).put(out);
         for q in h.requests.iter().take(self.1) {
-            write!(f, " {} {} {}", q.sid, q.size, q.first.0)?;
+            Numbers(&[q.sid, q.size, q.first.0]).put(out);
         }
-        Ok(())
     }
 }

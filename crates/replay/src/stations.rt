@@ -2,10 +2,10 @@
 // place.
 use crate::bad::Bad;
 use crate::numbers::at;
-use crate::print::{OfStation, Refused};
+use crate::print::{Numbers, OfStation, Part, Refused};
+use hearing::Answer;
 use slots::MiniSlot;
 use station::{Phase, Station};
-use std::fmt::Write;
 use stream::Text;
 
 // A station that no set-up has touched.
@@ -20,10 +20,15 @@ pub fn untouched() -> Station {
     }
 }
 
+fn shown(station: Station, out: &mut Text) {
+    out.put(b"station");
+    OfStation(station).put(out);
+}
+
 pub fn show(stations: &mut [Station], numbers: &[u32], out: &mut Text) -> Result<(), Bad> {
     let (station, numbers) = at(stations, numbers)?;
     let [] = <[u32; 0]>::try_from(numbers)?;
-    write!(out, "station {}", OfStation(*station))?;
+    shown(*station, out);
     Ok(())
 }
 
@@ -33,9 +38,9 @@ pub fn set_up(stations: &mut [Station], numbers: &[u32], out: &mut Text) -> Resu
     match Station::new(sid, u8::try_from(channel)?, u8::try_from(count)?, r) {
         Ok(ready) => {
             *station = ready;
-            write!(out, "station {}", OfStation(ready))?;
+            shown(ready, out);
         }
-        Err(why) => write!(out, "{}", Refused(why))?,
+        Err(why) => Refused(why).put(out),
     }
     Ok(())
 }
@@ -85,7 +90,7 @@ pub fn record(stations: &mut [Station], numbers: &[u32], out: &mut Text) -> Resu
         end: remembered(*known, *end)?,
         phase: phase(<[u32; 6]>::try_from(parts)?)?,
     };
-    write!(out, "station {}", OfStation(*station))?;
+    shown(*station, out);
     Ok(())
 }
 
@@ -96,10 +101,19 @@ pub fn offer(stations: &mut [Station], numbers: &[u32], out: &mut Text) -> Resul
     *station = offering.station;
     match offering.answer {
         Ok(()) => out.put(b"offered"),
-        Err(why) => write!(out, "{}", Refused(why))?,
+        Err(why) => Refused(why).put(out),
     }
-    write!(out, " {}", OfStation(*station))?;
+    OfStation(*station).put(out);
     Ok(())
+}
+
+fn heard(answer: Answer, out: &mut Text) {
+    out.put(b"heard");
+    Numbers(&[answer.bursts]).put(out);
+    match answer.request {
+        None => out.put(b" none"),
+        Some(first) => Numbers(&[first.0]).put(out),
+    }
 }
 
 pub fn hear(
@@ -113,12 +127,9 @@ pub fn hear(
     let hearing = hearing::hear(*station, bytes, MiniSlot(present), u16::try_from(draw)?);
     *station = hearing.station;
     match hearing.answer {
-        Ok(answer) => match answer.request {
-            None => write!(out, "heard {} none", answer.bursts)?,
-            Some(first) => write!(out, "heard {} {}", answer.bursts, first.0)?,
-        },
-        Err(why) => write!(out, "{}", Refused(why))?,
+        Ok(answer) => heard(answer, out),
+        Err(why) => Refused(why).put(out),
     }
-    write!(out, " {}", OfStation(*station))?;
+    OfStation(*station).put(out);
     Ok(())
 }

@@ -1,10 +1,9 @@
 // The call on a part of the station places, which hear one MAP together.
 use crate::bad::Bad;
-use crate::print::{Code, Numbers};
+use crate::print::{Code, Numbers, Part};
 use lent::hear_forty;
 use slots::MiniSlot;
 use station::Station;
-use std::fmt::Write;
 use stream::Text;
 
 // The draws given, into the front of the room. Not by `triples`: a draw is one number, which may be out
@@ -39,6 +38,8 @@ pub fn hear(
     let heard = hear_forty(*stations, first, count, bytes, present, draws, answers);
     let after = heard.stations;
     *stations = after;
-    write!(out, "table {}{}", Code(heard.answer), Numbers(answers))?;
+    out.put(b"table");
+    Code(heard.answer).put(out);
+    Numbers(answers).put(out);
     Ok(())
 }

@@ -3,7 +3,6 @@ ghost use Rattle.std.specs.Prelude.{◌≡◌, ◌<◌, length, take, IsErr, OnO
 ghost use Rattle.std.specs.Io.KnownBytes.{Appends};
 
 use crate::reason::{ROOM, reason};
-use crate::text::Text;
 use std::io::{Error, Write};
 
 // A read or a write failed, and that was said.
@@ -43,19 +42,21 @@ pub fn tell<W: Write, E: Write>(
     }
 }
 
-// .. and of the used bytes of a text; one that had no room is told nowhere.
+// .. and of the used bytes of a line; one that had no room is told nowhere. Not of a `Text`, whose bytes are lent to it
+// alone: here they are only read.
 pub fn tell_line<W: Write, E: Write>(
     to: &mut W,
     errors: &mut E,
     name: &[u8],
-    line: &Text,
+    line: &[u8],
+    used: usize,
 ) -> Result<(), Failed>
-    ensures no_room { length line.now.bytes.now < line.now.used → IsErr result }
-    ensures untold { length line.now.bytes.now < line.now.used → to.new ≡ to.old }
-    ensures bytes { OnOk result (Appends (W.contents to.old) (W.contents to.new) (take line.now.used line.now.bytes.now)) }
+    ensures no_room { length line.now < used → IsErr result }
+    ensures untold { length line.now < used → to.new ≡ to.old }
+    ensures bytes { OnOk result (Appends (W.contents to.old) (W.contents to.new) (take used line.now)) }
     ensures quiet { OnOk result (errors.new ≡ errors.old) }
 {
-    let Some(text) = line.bytes.get(..line.used) else {
+    let Some(text) = line.get(..used) else {
         complain(errors, name, b"text too long");
         return Err(Failed);
     };
