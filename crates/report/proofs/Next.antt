@@ -1,8 +1,8 @@
 -- What is known of the body that stands next: a MAP's row, or the number of a refusal.
 use mathlib.Core.Path.{◌≡◌, refl, sym, ◌∙◌, ap}
-use mathlib.Core.Bool.{Bool, true, false, cond, ◌||◌}
-use mathlib.Core.List.{List}
-use Prim.Native.Nat.{ℕ, zero, suc, ◌≤◌, ◌<◌}
+use mathlib.Core.Bool.{Bool, true, false, cond, not, ◌||◌}
+use mathlib.Core.List.{List, [], ◌∷◌}
+use Prim.Native.Nat.{ℕ, zero, suc, ◌+◌, ◌*◌, ◌≤◌, ◌<◌}
 use native.Mathlib.Omega.{arith}
 use lib.Dec.{ltb, eqb}
 use lib.ListN.{length, take}
@@ -13,13 +13,16 @@ use Rattle.rules.specs.declared.fields.Fields.{Fields}
 use Rattle.rules.specs.declared.refusal.Reason.{Reason}
 use Rattle.rules.specs.declared.refusal.Reason.TheVariants.{Short, Count, Length, Backoff, Use, Sid, Place, Span, Grant, Null, Room, Channel, Description, Stale, Late, Busy, Size, Held, Full, Passed, Unannounced, Ack, Plan, Selfcheck}
 use Rattle.rules.specs.declared.refusal.Refusal.{Refusal}
-use Rattle.rules.specs.Refusals.{number_of}
+use Rattle.rules.specs.declared.rules.Progress.{Progress}
+use Rattle.rules.specs.declared.rules.Whole.{Whole}
+use Rattle.rules.specs.Refusals.{number_of, unless}
 use Rattle.message.specs.declared.reading.Reading.{Reading}
 use Rattle.message.specs.Element.{word_at, element_at}
+use Rattle.rules.specs.Backoffs.{bad_backoffs}
 use Rattle.message.specs.Fields.{fields_of, count_of}
-use Rattle.rules.specs.Rules.{misordered, nothing_yet, walked}
+use Rattle.rules.specs.Rules.{misordered, unknown_use, wrong_sid, misplaced, too_far, grant_too_long, fault_of, nothing_yet, advanced, ended_at, walked}
 use Rattle.message.specs.Lists.{listed}
-use Rattle.message.specs.Reading.{read_of}
+use Rattle.message.specs.Reading.{header_fault, map_of, reading_of, read_of}
 use Rattle.message.proofs.Ways.{or_none}
 use Rattle.message.proofs.Accepted.{Accept, as_whole, accepted, whole_step}
 use Rattle.report.specs.declared.bodies.Row.{Row}
@@ -57,6 +60,74 @@ number_short Unannounced = omega arith
 number_short Ack = omega arith
 number_short Plan = omega arith
 number_short Selfcheck = omega arith
+
+-- numbers of refusals, 0 where there is none
+abbrev reason_in : Result Unit Reason → ℕ
+reason_in (Ok u) = 0
+reason_in (Err why) = number_of why
+
+abbrev pub bad_in : Body → ℕ
+bad_in (Ok row) = 0
+bad_in (Err why) = number_of why
+
+module _ {A : Type 0} where
+  abbrev refusal_in : Result A Refusal → ℕ
+  refusal_in (Ok x) = 0
+  refusal_in (Err why) = number_of why.reason
+
+  unless_most : (f : Result Unit Reason) (i : ℕ) (rest : Result A Refusal) → reason_in f ≤ 10 → refusal_in rest ≤ 10 → refusal_in (unless f i rest) ≤ 10
+  unless_most (Ok u) i rest h k = k
+  unless_most (Err why) i rest h k = h
+
+module _ (p : Progress) (e : Element) where
+  fault_most : reason_in (fault_of p e) ≤ 10
+  unfolding fault_of
+  fault_most =
+      at_most reason_in 10 (unknown_use e) _ _ (omega arith)
+      (at_most reason_in 10 (misordered p e) _ _ (omega arith)
+      (at_most reason_in 10 (wrong_sid e) _ _ (omega arith)
+      (at_most reason_in 10 (misplaced p e) _ _ (omega arith)
+      (at_most reason_in 10 (too_far p e) _ _ (omega arith)
+      (at_most reason_in 10 (grant_too_long p e) _ _ (omega arith) (omega arith))))))
+
+walk_most : (i : ℕ) (p : Progress) (es : List Element) → refusal_in (walked i p es) ≤ 10
+unfolding walked ended_at
+walk_most i p [] = at_most refusal_in 10 p.closed _ _ (omega arith) (omega arith)
+walk_most i p (e ∷ es) =
+    unless_most (fault_of p e) i (walked (i + 1) (advanced p e i) es) (fault_most p e) (walk_most (i + 1) (advanced p e i) es)
+
+module _ (s : List ℕ) where
+  header_most : reason_in (header_fault s) ≤ 10
+  unfolding header_fault
+  header_most =
+      at_most reason_in 10 (ltb (length s) 16) _ _ (omega arith)
+      (at_most reason_in 10 (eqb (count_of s) 0 || ltb 240 (count_of s)) _ _ (omega arith)
+      (at_most reason_in 10 (not (eqb (length s) (16 + 4 * count_of s))) _ _ (omega arith)
+      (at_most reason_in 10 (bad_backoffs (fields_of s)) _ _ (omega arith) (omega arith))))
+
+  reading_most : (f : Fields) (n : ℕ) (w : Result Whole Refusal) → refusal_in w ≤ 10 → refusal_in (reading_of f n w) ≤ 10
+  reading_most f n (Ok w) h = omega arith
+  reading_most f n (Err why) h = h
+
+  read_most : refusal_in (read_of s) ≤ 10
+  unfolding read_of
+  read_most =
+      let walk = walked 0 nothing_yet (map_of s).elements in
+      unless_most (header_fault s) 0 (reading_of (fields_of s) (count_of s) walk) header_most
+      (reading_most (fields_of s) (count_of s) walk (walk_most 0 nothing_yet (map_of s).elements))
+
+body_most : (v : Result Reading Refusal) → refusal_in v ≤ 10 → bad_in (body_by v) ≤ 10
+body_most (Ok reading) h = omega arith
+body_most (Err why) h = h
+
+-- a refusal in the report is at most 10
+pub next_most : (s : List ℕ) → bad_in (next_of s) ≤ 10
+unfolding next_of
+next_most s =
+    at_most bad_in 10 (ltb (length s) 16) _ _ (omega arith)
+    (at_most bad_in 10 (eqb (count_of s) 0 || ltb 240 (count_of s)) _ _ (omega arith)
+    (at_most bad_in 10 (ltb (length s) (size_of (count_of s))) _ _ (omega arith)
+    (body_most (read_of (take (size_of (count_of s)) s)) (read_most (take (size_of (count_of s)) s)))))
 
 -- an accepted message has two elements or more: the first is not the Null
 two_from : (el : ℕ → Element) (a b n null : ℕ) → null < n → walked 0 nothing_yet (listed el 0 n) ≡ as_whole a b → (el null).iuc ≡ 7 → 2 ≤ n
